@@ -1,0 +1,9 @@
+//! Breadth-first levels of a graph.
+//!
+//! The level of a vertex is the length of a shortest walk to it from the source. `plain` finds the
+//! levels of an edge list in one thread.
+#![tactic(auto)]
+
+mod plain_levels;
+
+pub use plain_levels::{NOT_REACHED, plain};

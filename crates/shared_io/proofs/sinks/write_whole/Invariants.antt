@@ -1,0 +1,15 @@
+use Rattle.std.proofs.Common.{◌≡◌, ℕ, ◌≤◌, length, take, drop, ◌-◌}
+use Rattle.std.specs.Io.KnownBytes.{Appends}
+use Rattle.shared_io.proofs.sinks.write_whole.Given as goal
+
+-- the first `done` bytes were taken
+abbrev pub invariant-loop-done : goal.invariant-loop-done
+invariant-loop-done g l = record {
+  within : l.done ≤ length l.bytes;
+  taken : Appends (g.K.Sink.taken l.fn.sink) (g.K.Sink.taken l.sink) (take l.done l.bytes);
+  faults : g.K.Sink.faults l.fn.sink ≤ g.K.Sink.faults l.sink;
+  refusals : g.K.Sink.refusals l.fn.sink ≤ g.K.Sink.refusals l.sink;
+}
+
+abbrev pub decreases-loop-done : goal.decreases-loop-done
+decreases-loop-done g l = length l.bytes - l.done

@@ -1,0 +1,15 @@
+//! Where bytes come from, where they go, and where a worker may be held.
+//!
+//! A `Source` and a `Sink` tell contracts which bytes they have left and which they took, where they
+//! know it, and count their own failures. So a caller can promise that it reports a failure only
+//! where one happened. A `Gate` is a point that a worker passes, for tests that need two threads to
+//! be at work at once.
+#![tactic(auto)]
+
+mod gates;
+mod sinks;
+mod sources;
+
+pub use gates::{Gate, OpenGate, Point};
+pub use sinks::{Sink, SinkFault, SureSink, WriteSink, write_whole};
+pub use sources::{Failed, ReadSource, Source, SureSource};
