@@ -5,5 +5,13 @@
 #![tactic(auto)]
 
 mod edges;
+mod faults;
+mod places;
+mod reader;
 
 pub use edges::{Edge, EdgeList, GREATEST_ID};
+pub use faults::EdgeFault;
+pub use reader::read_edges;
+
+#[cfg(test)]
+mod tests;

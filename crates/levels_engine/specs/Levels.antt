@@ -1,7 +1,7 @@
 use Rattle.std.specs.Prelude.{ℕ, ◌+◌, ◌≤◌, ◌==◌, List, [], ◌∷◌, MatchBool, max}
 use Rattle.edge_text.specs.declared.edges.Edge.{Edge}
 use Rattle.levels_engine.specs.Walks.{IsWalk}
-use Rattle.levels_engine.specs.declared.TheConstants.{NOT_REACHED}
+use Rattle.levels_engine.specs.declared.plain_levels.TheConstants.{NOT_REACHED}
 
 -- The level of a vertex: so many steps has a walk to it from the source, and no walk has fewer.
 pub record IsLevel (edges : List Edge) (source vertex level : ℕ) : Type 0 where

@@ -4,6 +4,9 @@
 //! levels of an edge list in one thread.
 #![tactic(auto)]
 
+mod marks;
 mod plain_levels;
+mod rows;
+mod search;
 
 pub use plain_levels::{NOT_REACHED, plain};

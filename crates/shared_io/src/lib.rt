@@ -9,6 +9,8 @@
 mod gates;
 mod sinks;
 mod sources;
+#[cfg(test)]
+mod tests;
 
 pub use gates::{Gate, OpenGate, Point};
 pub use sinks::{Sink, SinkFault, SureSink, WriteSink, write_whole};

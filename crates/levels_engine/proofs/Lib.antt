@@ -1,0 +1,5 @@
+pub mod Frontiers
+pub mod Marking
+pub mod Starts
+pub mod Vertices
+pub mod Walks

@@ -1,0 +1,154 @@
+use Rattle.std.proofs.Common.{◌≡◌, ◌≢◌, ℕ, ◌+◌, ◌<◌, Bool, cond, eqb, List, [], ◌∷◌, ◌++◌, length, get_or, replicate, slice_index, set, take, refl, sym, ap, subst, ◌∙◌, inl, inr, arith, length-set}
+use Rattle.std.specs.Prelude.{All, Contains, count_by}
+use Rattle.std.proofs.lemmas.Bool.{cases_Bool, cases_eq, cases_lt, cond-false, cond-true, eq-eqb, eqb-false, eqb-true, ne_eqb}
+use Rattle.std.proofs.lemmas.List.{get_or-replicate, length-replicate, get_or-set_same, get_or-set_other, get_or_push, get_or_append_left, get_or_default, length_push, get_or_past}
+use Rattle.std.proofs.lemmas.List.Elements.{All-more, All-push, All-weaker, Contains-push, Contains-append_left}
+use Rattle.std.proofs.lemmas.List.Sums.{sum_by-set}
+use Rattle.edge_text.specs.declared.edges.Edge.{Edge}
+use Rattle.levels_engine.specs.Marks.{HasTarget, IsMarked, IsMarking, Marking, MarksMore, level_of, marked}
+use Rattle.levels_engine.specs.declared.plain_levels.TheConstants.{NOT_REACHED}
+
+-- at first no vertex has a level
+pub level_of-replicate : (vertices vertex : ℕ) → level_of (replicate vertices NOT_REACHED) vertex ≡ NOT_REACHED
+level_of-replicate vertices vertex = elim (cases_lt vertex vertices) [
+  | inl within ↦ get_or-replicate vertices vertex NOT_REACHED NOT_REACHED within
+  | inr past ↦ get_or_past (replicate vertices NOT_REACHED) vertex NOT_REACHED (omega (arith, length-replicate vertices NOT_REACHED))
+]
+
+-- a level that is set
+module _ (levels : List ℕ) (vertex level : ℕ) where
+  pub level_of-set_same : vertex < length levels → level_of (set levels vertex level) vertex ≡ level
+  level_of-set_same within = get_or-set_same levels vertex level NOT_REACHED within
+
+  pub level_of-set_other : (other : ℕ) → other ≢ vertex → level_of (set levels vertex level) other ≡ level_of levels other
+  level_of-set_other other apart = get_or-set_other levels vertex other level NOT_REACHED apart
+
+-- A marking in which a vertex gets its level.
+module _ (levels queue : List ℕ) (vertex level : ℕ) (within : vertex < length levels) (high : level ≢ NOT_REACHED) where
+  here : level_of (set levels vertex level) vertex ≡ level
+  here = level_of-set_same levels vertex level within
+
+  IsMarked-set : (other : ℕ) → IsMarked levels other → IsMarked (set levels vertex level) other
+  IsMarked-set other h = elim (cases_eq other vertex) [
+    | inl same ↦ λ e. high (sym here ∙ ap (λ (v : ℕ). level_of (set levels vertex level) v) (sym same) ∙ e)
+    | inr apart ↦ λ e. h (sym (level_of-set_other levels vertex level other apart) ∙ e)
+  ]
+
+  module _ (old : IsMarking levels queue) (none : level_of levels vertex ≡ NOT_REACHED) where
+    counted : length (queue ++ vertex ∷ []) + count_by (λ n. eqb n NOT_REACHED) (set levels vertex level) ≡ length (set levels vertex level)
+    counted =
+        let is_none : ℕ → ℕ = λ n. cond (eqb n NOT_REACHED) 1 0 in
+        let change = sum_by-set is_none levels vertex level NOT_REACHED within in
+        let before : is_none (level_of levels vertex) ≡ 1 = ap (λ (b : Bool). cond b 1 0) (eq-eqb _ _ none) in
+        let after : is_none level ≡ 0 = ap (λ (b : Bool). cond b 1 0) (ne_eqb level NOT_REACHED high) in
+        omega (arith, old.counted, change, before, after, length_push queue vertex, length-set levels vertex level)
+
+    -- a vertex that had no level gets one, and goes to the end of the queue
+    pub IsMarking-set : IsMarking (set levels vertex level) (queue ++ vertex ∷ [])
+    IsMarking-set = record {
+      marked = All-push (IsMarked (set levels vertex level)) queue vertex
+          (All-weaker (IsMarked levels) (IsMarked (set levels vertex level)) IsMarked-set queue old.marked)
+          (λ e. high (sym here ∙ e));
+      queued = λ other h. elim (cases_eq other vertex) [
+        | inl same ↦ subst (Contains (queue ++ vertex ∷ [])) (sym same) (Contains-push queue vertex)
+        | inr apart ↦ Contains-append_left queue (vertex ∷ []) other (old.queued other (λ e. h (level_of-set_other levels vertex level other apart ∙ e)))
+      ];
+      counted = counted;
+    }
+
+-- nothing changes
+pub MarksMore-refl : (level : ℕ) (IsNear : ℕ → Type 0) (marking : Marking) → MarksMore level IsNear marking marking
+MarksMore-refl level IsNear marking = record {
+  count = refl;
+  kept = λ vertex h. refl;
+  gained = λ vertex h. inl h;
+  longer = omega arith;
+  front = λ place before. refl;
+  back = λ place after before. absurd (omega arith);
+}
+
+-- a mark stays
+pub IsMarked-more : (level : ℕ) (IsNear : ℕ → Type 0) (old new : Marking) → MarksMore level IsNear old new → (vertex : ℕ) → IsMarked old.levels vertex → IsMarked new.levels vertex
+IsMarked-more level IsNear old new more vertex h = λ e. h (sym (more.kept vertex h) ∙ e)
+
+-- more vertices are near
+pub MarksMore-weaker : (level : ℕ) (IsNear IsNearby : ℕ → Type 0) (old new : Marking) → ((vertex : ℕ) → IsNear vertex → IsNearby vertex) → MarksMore level IsNear old new → MarksMore level IsNearby old new
+MarksMore-weaker level IsNear IsNearby old new wider more = record {
+  count = more.count;
+  kept = more.kept;
+  gained = λ vertex h. elim (more.gained vertex h) [
+    | inl before ↦ inl before
+    | inr now ↦ inr (now.0, wider vertex now.1)
+  ];
+  longer = more.longer;
+  front = more.front;
+  back = more.back;
+}
+
+-- one change after another
+pub MarksMore-trans : (level : ℕ) (IsNear : ℕ → Type 0) (old mid new : Marking) → level ≢ NOT_REACHED → MarksMore level IsNear old mid → MarksMore level IsNear mid new → MarksMore level IsNear old new
+MarksMore-trans level IsNear old mid new high first then = record {
+  count = then.count ∙ first.count;
+  kept = λ vertex h. then.kept vertex (IsMarked-more level IsNear old mid first vertex h) ∙ first.kept vertex h;
+  gained = λ vertex h. elim (then.gained vertex h) [
+    | inl before ↦ elim (first.gained vertex before) [
+      | inl long_before ↦ inl long_before
+      | inr now ↦ inr (then.kept vertex before ∙ now.0, now.1)
+    ]
+    | inr now ↦ inr now
+  ];
+  longer = omega (arith, first.longer, then.longer);
+  front = λ place before. then.front place (omega (arith, first.longer)) ∙ first.front place before;
+  back = λ place after before. elim (cases_lt place (length mid.queue)) [
+    | inl early ↦
+        let vertex = slice_index mid.queue place in
+        let there : level_of mid.levels vertex ≡ level = first.back place after early in
+        ap (λ (v : ℕ). level_of new.levels v) (then.front place early) ∙ then.kept vertex (λ e. high (sym there ∙ e)) ∙ there
+    | inr late ↦ then.back place late before
+  ];
+}
+
+-- What `marked` makes of a marking.
+module _ (marking : Marking) (vertex level : ℕ) (within : vertex < length marking.levels) (high : level ≢ NOT_REACHED) where
+  MarksMore-set : (IsNear : ℕ → Type 0) → IsNear vertex → level_of marking.levels vertex ≡ NOT_REACHED → MarksMore level IsNear marking (record { levels = set marking.levels vertex level; queue = marking.queue ++ vertex ∷ [] })
+  MarksMore-set IsNear near none = record {
+    count = length-set marking.levels vertex level;
+    kept = λ other h. level_of-set_other marking.levels vertex level other (λ e. h (ap (level_of marking.levels) e ∙ none));
+    gained = λ other h. elim (cases_eq other vertex) [
+      | inl same ↦ inr (ap (level_of (set marking.levels vertex level)) same ∙ level_of-set_same marking.levels vertex level within, subst IsNear (sym same) near)
+      | inr apart ↦ inl (λ e. h (level_of-set_other marking.levels vertex level other apart ∙ e))
+    ];
+    longer = omega (arith, length_push marking.queue vertex);
+    front = λ place before. get_or_append_left marking.queue (vertex ∷ []) 0 place before;
+    back = λ place after before.
+        let at : length marking.queue ≡ place = omega (arith, length_push marking.queue vertex) in
+        ap (level_of (set marking.levels vertex level)) (get_or_push marking.queue vertex 0 place at) ∙ level_of-set_same marking.levels vertex level within;
+  }
+
+  -- a vertex gets a level, or has one
+  pub MarksMore-marked : (IsNear : ℕ → Type 0) → IsNear vertex → MarksMore level IsNear marking (marked marking vertex level)
+  MarksMore-marked IsNear near = elim (cases_Bool (eqb (level_of marking.levels vertex) NOT_REACHED)) [
+    | inl none ↦ subst (MarksMore level IsNear marking) (sym (cond-true _ _ _ none)) (MarksMore-set IsNear near (eqb-true _ _ none))
+    | inr some ↦ subst (MarksMore level IsNear marking) (sym (cond-false _ _ _ some)) (MarksMore-refl level IsNear marking)
+  ]
+
+  -- so it has one afterwards
+  pub IsMarked-marked : IsMarked (marked marking vertex level).levels vertex
+  IsMarked-marked = elim (cases_Bool (eqb (level_of marking.levels vertex) NOT_REACHED)) [
+    | inl none ↦ subst (λ (m : Marking). IsMarked m.levels vertex) (sym (cond-true _ _ _ none)) (λ e. high (sym (level_of-set_same marking.levels vertex level within) ∙ e))
+    | inr some ↦ subst (λ (m : Marking). IsMarked m.levels vertex) (sym (cond-false _ _ _ some)) (eqb-false _ _ some)
+  ]
+
+-- the targets of a row, so far as they are marked, and one more
+pub marks_row_more : (row : List Edge) (place level : ℕ) (edge : Edge) (old mid new : Marking) → level ≢ NOT_REACHED → place < length row → All (λ (edge : Edge). edge.to < length old.levels) row → MarksMore level (HasTarget row) old mid → All (λ (edge : Edge). IsMarked mid.levels edge.to) (take place row) → new ≡ marked mid (get_or row place edge).to level → MarksMore level (HasTarget row) old new × All (λ (edge : Edge). IsMarked new.levels edge.to) (take (place + 1) row)
+marks_row_more row place level edge old mid new high within targets more all is =
+    let target = (get_or row place edge).to in
+    let inside : target < length mid.levels = omega (arith, targets place edge within, more.count) in
+    let near : HasTarget row target = (place, get_or row place edge, within, get_or_default row place (get_or row place edge) edge within, refl) in
+    let step : MarksMore level (HasTarget row) mid new = subst (MarksMore level (HasTarget row) mid) (sym is) (MarksMore-marked mid target level inside high (HasTarget row) near) in
+    let AreMarked : Marking → Edge → Type 0 = λ m edge. IsMarked m.levels edge.to in
+    let last : AreMarked new (get_or row place edge) = subst (λ (m : Marking). IsMarked m.levels target) (sym is) (IsMarked-marked mid target level inside high) in (
+      MarksMore-trans level (HasTarget row) old mid new high more step,
+      All-more (AreMarked new) row place edge within
+          (All-weaker (AreMarked mid) (AreMarked new) (λ edge. IsMarked-more level (HasTarget row) mid new step edge.to) (take place row) all) last,
+    )

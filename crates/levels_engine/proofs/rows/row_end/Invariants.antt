@@ -1,0 +1,12 @@
+use Rattle.std.proofs.Common.{◌-◌, ◌+◌, ◌≤◌, ◌<◌, length}
+use Rattle.std.specs.List.{AllWithin}
+use Rattle.levels_engine.proofs.rows.row_end.Given as goal
+
+abbrev pub invariant-loop-end : goal.invariant-loop-end
+invariant-loop-end l = record {
+  within : l.end ≤ length l.edges;
+  passed : AllWithin (λ edge. edge.from < l.vertex + 1) l.edges 0 l.end;
+}
+
+abbrev pub decreases-loop-end : goal.decreases-loop-end
+decreases-loop-end l = length l.edges - l.end

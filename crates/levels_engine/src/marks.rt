@@ -1,0 +1,89 @@
+ghost use Rattle.std.specs.Prelude.{◌≡◌, ◌≢◌, ℕ, ◌<◌, ◌≤◌, [], All, Contains, IfOk, OnOk, length, replicate, slice_index};
+ghost use Rattle.levels_engine.specs.Marks.{HasTarget, IsMarked, MarksMore, marked};
+
+use crate::plain_levels::NOT_REACHED;
+use edge_text::Edge;
+use std::alloc::{AllocError, Global};
+use std::marker::Model;
+
+/// The levels that a search has found, and the vertices that have one, in the order in which they
+/// got it.
+#[derive(Drop)]
+pub struct Marks {
+    levels: Vec<u32>,
+    queue: Vec<u32>,
+}
+
+impl Model for Marks {
+    ghost use Rattle.levels_engine.specs.Marks.{IsMarking, Marking};
+
+    ghost Value = { Marking };
+
+    ghost view = { λ marks. record { levels = marks.levels.items; queue = marks.queue.items } };
+
+    ghost invariant = { λ marks. IsMarking marks.levels.items marks.queue.items };
+}
+
+impl Marks {
+    /// No vertex has a level yet.
+    pub fn new(alloc: Global, vertices: u32) -> Result<Marks, AllocError>
+        ensures levels { IfOk result (λ marks. marks.levels ≡ replicate vertices NOT_REACHED) }
+        ensures queue { IfOk result (λ marks. marks.queue ≡ []) }
+    {
+        let levels = vec![in alloc; NOT_REACHED; vertices as usize]?;
+        let queue = Vec::with_capacity(alloc, vertices as usize)?;
+        Ok(Marks { levels, queue })
+    }
+
+    /// How many vertices have a level.
+    pub fn count(&self) -> usize
+        ensures count { result ≡ length self.now.queue }
+        ensures within { result ≤ length self.now.levels }
+    {
+        self.queue.len()
+    }
+
+    /// The vertex that got its level after so many others.
+    pub fn vertex_at(&self, place: usize) -> u32
+        requires { place < length self.now.queue }
+        ensures vertex { result ≡ slice_index self.now.queue place }
+        ensures within { result < length self.now.levels }
+    {
+        self.queue[place]
+    }
+
+    /// Gives the vertex the level, if it has none.
+    pub fn mark(&mut self, vertex: u32, level: u32) -> Result<(), AllocError>
+        requires vertex { vertex < length self.old.levels }
+        requires level { level ≢ NOT_REACHED }
+        ensures ok { OnOk result (self.new ≡ marked self.old vertex level) }
+    {
+        if self.levels[vertex as usize] == NOT_REACHED {
+            self.queue.push(vertex)?;
+            self.levels[vertex as usize] = level;
+        }
+        Ok(())
+    }
+
+    /// Gives the level to each target that has none.
+    pub fn mark_row(&mut self, row: &[Edge], level: u32) -> Result<(), AllocError>
+        requires targets { All (λ edge. edge.to < length self.old.levels) row.now }
+        requires level { level ≢ NOT_REACHED }
+        ensures more { OnOk result (MarksMore level (HasTarget row.now) self.old self.new) }
+        ensures all { OnOk result (All (λ edge. IsMarked self.new.levels edge.to) row.now) }
+    {
+        for edge in row {
+            self.mark(edge.to, level)?;
+        }
+        Ok(())
+    }
+
+    /// The level of each vertex.
+    pub fn into_levels(self) -> Vec<u32>
+        ensures levels { result.items ≡ self.levels }
+        ensures queued { (vertex : ℕ) → IsMarked self.levels vertex → Contains self.queue vertex }
+    {
+        let Marks { levels, queue: _ } = self;
+        levels
+    }
+}

@@ -1,0 +1,4 @@
+pub mod Lists
+pub mod PlainTexts
+pub mod ReachedFrom
+pub mod Runs

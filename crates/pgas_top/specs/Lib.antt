@@ -1,0 +1,10 @@
+pub use Rattle.edge_text.specs.EdgeText
+pub use Rattle.levels_engine.specs.Levels
+pub use Rattle.levels_engine.specs.Walks
+pub use Rattle.shared_io.specs.Counts
+pub mod Commands
+pub mod Devices
+pub mod LevelsText
+pub mod Outcome
+pub mod Statuses
+pub mod PlainText

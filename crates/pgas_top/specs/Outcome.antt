@@ -1,0 +1,84 @@
+use Rattle.std.specs.Prelude.{◌≡◌, ℕ, ◌≤◌, ◌^◌, List, ◌++◌, length, Some, ◌⊎◌}
+use Rattle.std.specs.Io.KnownBytes.{Appends, Consumes, IsAtEnd}
+use Rattle.edge_text.specs.declared.edges.Edge.{Edge}
+use Rattle.edge_text.specs.EdgeText.{IsEdgeText, CanGoOn, IsRefused}
+use Rattle.pgas_top.specs.Commands.{Names}
+use Rattle.pgas_top.specs.Devices.{SourceChange, SinkChange, SourceFailed, SinkFailed, IsUnread, IsUnwritten}
+use Rattle.pgas_top.specs.LevelsText.{IsLevelsText}
+use Rattle.pgas_top.specs.Statuses.{line_of, IsTold}
+use Rattle.pgas_top.specs.declared.commands.Command.{Command}
+use Rattle.pgas_top.specs.declared.commands.Command.TheVariants.{Plain}
+use Rattle.pgas_top.specs.declared.statuses.Status.{Status}
+use Rattle.pgas_top.specs.declared.statuses.Status.TheVariants.{Done, BadWords, BadInput, ReadFault, WriteFault, OutOfMemory}
+
+-- the command accepts the input, which is whole
+abbrev pub Accepts : Command → List ℕ → Type 0
+Accepts (Plain source) input = (edges : List Edge) × IsEdgeText input edges
+
+-- the command gives the text for the input, which is whole
+abbrev pub Gives : Command → List ℕ → List ℕ → Type 0
+Gives (Plain source) input text = (edges : List Edge) × IsEdgeText input edges × IsLevelsText edges source text
+
+-- what was read is refused at this line, at a byte of it or, where it ended, at its end
+abbrev pub Refuses : Command → List ℕ → Type 0 → ℕ → Type 0
+Refuses (Plain source) read ended line = IsRefused read ended line
+
+-- no refusal stands at a byte of what was read
+abbrev pub Admits : Command → List ℕ → Type 0
+Admits (Plain source) read = CanGoOn read
+
+-- Nothing was asked for once a refusal stood: what was read but the last piece could go on.
+pub record WasAskedFor (command : Command) (read : List ℕ) : Type 0 where
+  pub earlier : List ℕ
+  pub piece : List ℕ
+  pub parts : read ≡ earlier ++ piece
+  pub admitted : Admits command earlier
+  pub bounded : length piece ≤ 2 ^ 16
+
+-- what was read is a whole input, to its end, and the command gives the text for it
+abbrev pub Completes : Command → List ℕ → Type 0 → List ℕ → Type 0
+Completes command read ended text = ended × Gives command read text
+
+-- the front of the text
+abbrev pub IsFrontOf : List ℕ → List ℕ → Type 0
+IsFrontOf front text = (rest : List ℕ) × (text ≡ front ++ rest)
+
+-- what a status says of a command that has read this and written this
+abbrev pub Ends : Command → SourceChange → SinkChange → List ℕ → List ℕ → Status → Type 0
+Ends command source sink read written Done = Completes command read (IsAtEnd source.left_after) written
+Ends command source sink read written BadWords = ⊥
+Ends command source sink read written (BadInput line) = Refuses command read (IsAtEnd source.left_after) line × IsUnwritten sink
+Ends command source sink read written ReadFault = SourceFailed source × Admits command read × IsUnwritten sink
+Ends command source sink read written WriteFault = SinkFailed sink × ((text : List ℕ) × Completes command read (IsAtEnd source.left_after) text × IsFrontOf written text)
+Ends command source sink read written OutOfMemory = IsUnwritten sink ⊎ ((text : List ℕ) × Completes command read (IsAtEnd source.left_after) text × IsFrontOf written text)
+
+-- A command ran: what it read and wrote, and what the status says of it.
+pub record Ran (command : Command) (source : SourceChange) (sink : SinkChange) (status : Status) : Type 0 where
+  pub read : List ℕ
+  pub written : List ℕ
+  pub consumed : Consumes source.left_before source.left_after read
+  pub taken : Appends sink.taken_before sink.taken_after written
+  pub ends : Ends command source sink read written status
+  pub asked : WasAskedFor command read
+  -- An accepted input comes to its end: nothing but a failure or want of memory keeps its whole text from being written.
+  pub complete : (input : List ℕ) → source.left_before ≡ Some input → Accepts command input → (SourceFailed source → ⊥) → (SinkFailed sink → ⊥) → (status ≡ Done) ⊎ (status ≡ OutOfMemory)
+  -- No count falls.
+  pub source_count : source.faults_before ≤ source.faults_after
+  pub sink_count : sink.faults_before ≤ sink.faults_after
+  pub refusal_count : sink.refusals_before ≤ sink.refusals_after
+
+-- No command that is offered has these words. Nothing is read, and nothing is written.
+pub record IsUnknown (offered : Command → Type 0) (words : List (List ℕ)) (source : SourceChange) (sink : SinkChange) : Type 0 where
+  pub unknown : (command : Command) → offered command → Names words command → ⊥
+  pub unread : IsUnread source
+  pub unwritten : IsUnwritten sink
+
+-- by the words: the outcome of the command that they name, or bad words
+abbrev pub Answers : (Command → Type 0) → List (List ℕ) → SourceChange → SinkChange → Status → Type 0
+Answers offered words source sink BadWords = IsUnknown offered words source sink
+Answers offered words source sink status = (command : Command) × offered command × Names words command × Ran command source sink status
+
+-- The outcome of a run: words, what the source, the sink and the sink for faults tell before and after it, and the status.
+pub record Outcome (offered : Command → Type 0) (words : List (List ℕ)) (source : SourceChange) (sink faults : SinkChange) (status : Status) : Type 0 where
+  pub answers : Answers offered words source sink status
+  pub told : IsTold faults (line_of status)

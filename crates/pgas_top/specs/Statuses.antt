@@ -1,0 +1,46 @@
+use Rattle.std.specs.Prelude.{◌≡◌, ℕ, ◌≤◌, List, [], ◌∷◌, ◌++◌, length, take, codes, ◌⊎◌}
+use Rattle.std.specs.Fmt.{decimal}
+use Rattle.std.specs.Io.KnownBytes.{Appends}
+use Rattle.edge_text.specs.declared.faults.EdgeFault.{EdgeFault}
+use Rattle.edge_text.specs.declared.faults.EdgeFault.TheVariants as edge
+use Rattle.shared_io.specs.declared.sinks.SinkFault.{SinkFault}
+use Rattle.shared_io.specs.declared.sinks.SinkFault.TheVariants as sink
+use Rattle.pgas_top.specs.Devices.{SinkChange, SinkFailed, SinkRefused}
+use Rattle.pgas_top.specs.declared.statuses.Status.{Status}
+use Rattle.pgas_top.specs.declared.statuses.Status.TheVariants.{Done, BadWords, BadInput, ReadFault, WriteFault, OutOfMemory}
+
+-- the program's exit status
+abbrev pub number_of : Status → ℕ
+number_of Done = 0
+number_of BadWords = 2
+number_of (BadInput line) = 3
+number_of ReadFault = 4
+number_of WriteFault = 5
+number_of OutOfMemory = 6
+
+-- the line on the sink for faults
+abbrev pub line_of : Status → List ℕ
+line_of Done = []
+line_of BadWords = codes "pgas: bad words\n"
+line_of (BadInput line) = codes "pgas: bad line " ++ decimal line ++ 10 ∷ []
+line_of ReadFault = codes "pgas: read failed\n"
+line_of WriteFault = codes "pgas: write failed\n"
+line_of OutOfMemory = codes "pgas: out of memory\n"
+
+-- The line stands on the sink: whole, or cut where the sink failed or wanted memory.
+pub record IsTold (faults : SinkChange) (line : List ℕ) : Type 0 where
+  pub count : ℕ
+  pub within : count ≤ length line
+  pub taken : Appends faults.taken_before faults.taken_after (take count line)
+  pub whole : (count ≡ length line) ⊎ (SinkFailed faults ⊎ SinkRefused faults)
+
+-- the status that a fault of the reader comes out as
+abbrev pub IsStatusOf : EdgeFault → Status → Type 0
+IsStatusOf (edge.BadLine line) status = status ≡ BadInput line
+IsStatusOf edge.ReadFault status = status ≡ ReadFault
+IsStatusOf edge.OutOfMemory status = status ≡ OutOfMemory
+
+-- the status that a fault of the sink comes out as
+abbrev pub IsStatusOfSink : SinkFault → Status → Type 0
+IsStatusOfSink sink.Failed status = status ≡ WriteFault
+IsStatusOfSink sink.Memory status = status ≡ OutOfMemory

@@ -1,0 +1,18 @@
+//! The program as a function: words and bytes in, bytes and a status out.
+//!
+//! `run` carries out any command, and `run_plain` those that need one thread alone. What both promise
+//! stands in one place, the relation `Outcome` of specs/Outcome.antt: which status comes when, what
+//! was read, what was written, and which line stands on the sink for faults.
+#![tactic(auto)]
+
+mod commands;
+mod levels_text;
+mod program;
+mod statuses;
+#[cfg(test)]
+mod tests;
+
+pub use commands::{Command, command_of};
+pub use levels_text::write_levels;
+pub use program::{run, run_plain};
+pub use statuses::{Status, report};
