@@ -3,13 +3,14 @@ use Rattle.std.specs.Prelude.{All, Contains, MatchBool, ◌↔◌}
 use Rattle.std.proofs.lemmas.Bool.{cases_Bool, cases_eq, cases_lt, cond-true, eq-eqb, eqb-false, eqb-true}
 use Rattle.std.proofs.lemmas.List.{get_or_default, length-replicate}
 use Rattle.std.proofs.lemmas.List.Elements.{All-contains}
+use Rattle.std.proofs.lemmas.List.Sorted.{length_permutation}
 use Rattle.edge_text.specs.declared.edges.Edge.{Edge}
 use Rattle.edge_text.specs.Edges.{HasEdge}
 use Rattle.levels_engine.specs.Levels.{HasNoLevel, IsLevel, IsLevelNumber}
-use Rattle.levels_engine.specs.Marks.{HasTarget, IsMarked, IsNextTo, Marking, MarksMore, level_of, marked}
+use Rattle.levels_engine.specs.Marks.{HasTarget, IsMarked, IsNextTo, Marking, MarksMore, Reorders, level_of, marked}
 use Rattle.levels_engine.specs.Walks.{IsWalk}
 use Rattle.levels_engine.specs.declared.plain_levels.TheConstants.{NOT_REACHED}
-use Rattle.levels_engine.proofs.Marking.{IsMarked-more, level_of-replicate, level_of-set_other, level_of-set_same, MarksMore-trans, MarksMore-weaker}
+use Rattle.levels_engine.proofs.Marking.{IsMarked-more, IsPermutation-reordered, behind-reordered, slice_index-reordered, level_of-replicate, level_of-set_other, level_of-set_same, MarksMore-trans, MarksMore-weaker}
 use Rattle.levels_engine.proofs.Walks.{IsWalk-keeps, IsWalk-none, IsWalk-push}
 
 -- A row is the part of the edges that leave the vertex.
@@ -102,6 +103,27 @@ module _ (edges : List Edge) (source vertices : ℕ) (within : source < vertices
       let given : empty ≡ make none [] = ap₂ make levels queue in
       let first : marked (make none []) source 0 ≡ make alone (source ∷ []) = cond-true _ _ _ (eq-eqb _ _ (level_of-replicate vertices source)) in
       subst (IsSearched edges source 0 0) (sym (is ∙ ap (λ (m : Marking). marked m source 0) given ∙ first)) is_searched
+
+-- the frontier in another order
+pub IsSearched-reordered : (edges : List Edge) (source level begin : ℕ) (old new : Marking) → Reorders begin old new → IsSearched edges source level begin old → IsSearched edges source level begin new
+IsSearched-reordered edges source level begin old new again is =
+    let P : List ℕ → Type 0 = λ levels. IsSearched edges source level begin (record { levels = levels; queue = new.queue }) in
+    let same_length : length new.queue ≡ length old.queue = length_permutation old.queue new.queue (IsPermutation-reordered begin old new again) in
+    subst P (sym again.levels) (record {
+      start = is.start;
+      marked = λ place below. elim (cases_lt place begin) [
+        | inl before ↦ subst (IsMarked old.levels) (sym (slice_index-reordered begin old new again place before)) (is.marked place (omega (arith, same_length)))
+        | inr behind ↦ behind-reordered begin old new again (IsMarked old.levels) (λ k from within. is.marked k within) place behind below
+      ];
+      walks = is.walks;
+      highest = is.highest;
+      frontier = λ place from below. behind-reordered begin old new again (λ (v : ℕ). level_of old.levels v ≡ level) is.frontier place from below;
+      settled = λ place to before edge.
+          let Q : ℕ → Type 0 = λ v. HasEdge edges v to → IsMarked old.levels to × (level_of old.levels to ≤ level_of old.levels v + 1) in
+          subst Q (sym (slice_index-reordered begin old new again place before)) (is.settled place to before) edge;
+      depth = is.depth;
+      within = omega (arith, is.within, same_length);
+    })
 
 -- The next frontier.
 module _ (edges : List Edge) (source level begin end : ℕ) (old new : Marking) (high : level + 1 ≢ NOT_REACHED) (left : begin < end) (whole : end ≡ length old.queue) (is : IsSearched edges source level begin old) (more : MarksMore (level + 1) (IsNextTo edges old.queue begin end) old new) (all : (vertex : ℕ) → IsNextTo edges old.queue begin end vertex → IsMarked new.levels vertex) where

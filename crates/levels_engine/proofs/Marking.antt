@@ -1,11 +1,15 @@
-use Rattle.std.proofs.Common.{◌≡◌, ◌≢◌, ℕ, ◌+◌, ◌<◌, Bool, cond, eqb, List, [], ◌∷◌, ◌++◌, length, get_or, replicate, slice_index, set, take, refl, sym, ap, subst, ◌∙◌, inl, inr, arith, length-set}
+use Rattle.std.proofs.Common.{◌≡◌, ◌≢◌, ℕ, ◌+◌, ◌-◌, ◌<◌, ◌≤◌, Bool, cond, eqb, List, [], ◌∷◌, ◌++◌, length, get_or, replicate, slice_index, set, take, drop, refl, sym, ap, subst, ◌∙◌, inl, inr, arith, append-nil, length-set}
 use Rattle.std.specs.Prelude.{All, Contains, count_by}
 use Rattle.std.proofs.lemmas.Bool.{cases_Bool, cases_eq, cases_lt, cond-false, cond-true, eq-eqb, eqb-false, eqb-true, ne_eqb}
-use Rattle.std.proofs.lemmas.List.{get_or-replicate, length-replicate, get_or-set_same, get_or-set_other, get_or_push, get_or_append_left, get_or_default, length_push, get_or_past}
+use borrow.Rule.Slice.PartMut.{post_of, put_mid}
+use Rattle.std.proofs.Math.Seq.{take-length}
+use Rattle.std.proofs.lemmas.List.{drop_all, drop_at, length-take-le, get_or-drop, get_or-take, length-drop, take-append-drop, get_or-replicate, length-replicate, get_or-set_same, get_or-set_other, get_or_push, get_or_append_left, get_or_default, length_push, get_or_past}
 use Rattle.std.proofs.lemmas.List.Elements.{All-more, All-push, All-weaker, Contains-push, Contains-append_left}
 use Rattle.std.proofs.lemmas.List.Sums.{sum_by-set}
 use Rattle.edge_text.specs.declared.edges.Edge.{Edge}
-use Rattle.levels_engine.specs.Marks.{HasTarget, IsMarked, IsMarking, Marking, MarksMore, level_of, marked}
+use Rattle.std.proofs.lemmas.List.Sorted.{All-permutation, Contains-permutation, IsPermutation-append_right, length_permutation}
+use Rattle.std.specs.List.Sorted.{IsPermutation}
+use Rattle.levels_engine.specs.Marks.{HasTarget, IsMarked, IsMarking, Marking, MarksMore, Reorders, level_of, marked}
 use Rattle.levels_engine.specs.declared.plain_levels.TheConstants.{NOT_REACHED}
 
 -- at first no vertex has a level
@@ -152,3 +156,41 @@ marks_row_more row place level edge old mid new high within targets more all is 
       All-more (AreMarked new) row place edge within
           (All-weaker (AreMarked mid) (AreMarked new) (λ edge. IsMarked-more level (HasTarget row) mid new step edge.to) (take place row) all) last,
     )
+
+-- what stands from a place on after it was sorted there
+pub IsPermutation-tail : (xs ys : List ℕ) (begin : ℕ) → begin ≤ length xs → IsPermutation (take (length xs - begin) (drop begin xs)) ys → IsPermutation (drop begin xs) (drop begin (put_mid begin (length xs - begin) xs ys))
+IsPermutation-tail xs ys begin within moved =
+    let count = length-drop begin xs in
+    let whole : take (length xs - begin) (drop begin xs) ≡ drop begin xs = rw (sym count) (take-length (drop begin xs)) in
+    let none : post_of begin (length xs - begin) xs ≡ [] = drop_all (length xs - begin) (drop begin xs) (omega (arith, count)) in
+    let after : drop begin (put_mid begin (length xs - begin) xs ys) ≡ ys = drop_at (take begin xs) (ys ++ post_of begin (length xs - begin) xs) begin (length-take-le begin xs within) ∙ (ap (λ (zs : List ℕ). ys ++ zs) none ∙ append-nil ys) in
+    subst (λ (zs : List ℕ). IsPermutation (drop begin xs) zs) (sym after) (subst (λ (zs : List ℕ). IsPermutation zs ys) whole moved)
+
+-- another order of the queue
+module _ (begin : ℕ) (old new : Marking) (again : Reorders begin old new) where
+  pub IsPermutation-reordered : IsPermutation old.queue new.queue
+  IsPermutation-reordered =
+      subst (λ (xs : List ℕ). IsPermutation xs new.queue) (take-append-drop begin old.queue)
+      (subst (λ (ys : List ℕ). IsPermutation (take begin old.queue ++ drop begin old.queue) ys) (ap (λ (front : List ℕ). front ++ drop begin new.queue) (sym again.front) ∙ take-append-drop begin new.queue)
+      (IsPermutation-append_right (take begin old.queue) (drop begin old.queue) (drop begin new.queue) again.rest))
+
+  pub IsMarking-reordered : IsMarking old.levels old.queue → IsMarking new.levels new.queue
+  IsMarking-reordered is =
+      let moved = IsPermutation-reordered in
+      subst (λ (levels : List ℕ). IsMarking levels new.queue) (sym again.levels) (record {
+        marked = All-permutation (IsMarked old.levels) old.queue new.queue moved is.marked;
+        queued = λ vertex h. Contains-permutation old.queue new.queue vertex moved (is.queued vertex h);
+        counted = omega (arith, is.counted, length_permutation old.queue new.queue moved);
+      })
+
+  -- a place before stays as it was
+  pub slice_index-reordered : (place : ℕ) → place < begin → slice_index new.queue place ≡ slice_index old.queue place
+  slice_index-reordered place before = sym (get_or-take begin new.queue place 0 before) ∙ (ap (λ (front : List ℕ). slice_index front place) again.front ∙ get_or-take begin old.queue place 0 before)
+
+  -- what holds of each vertex from there on holds of each after
+  pub behind-reordered : (P : ℕ → Type 0) → ((place : ℕ) → begin ≤ place → place < length old.queue → P (slice_index old.queue place)) → (place : ℕ) → begin ≤ place → place < length new.queue → P (slice_index new.queue place)
+  behind-reordered P each place from below =
+      let all : All P (drop begin old.queue) = λ k d within. subst P (get_or_default old.queue (begin + k) 0 d (omega (arith, within, length-drop begin old.queue)) ∙ sym (get_or-drop begin old.queue k d)) (each (begin + k) (omega arith) (omega (arith, within, length-drop begin old.queue))) in
+      let moved = All-permutation P (drop begin old.queue) (drop begin new.queue) again.rest all in
+      let here : begin + (place - begin) ≡ place = omega arith in
+      subst P (get_or-drop begin new.queue (place - begin) 0 ∙ ap (slice_index new.queue) here) (moved (place - begin) 0 (omega (arith, length-drop begin new.queue)))

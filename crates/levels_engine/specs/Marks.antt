@@ -1,4 +1,5 @@
-use Rattle.std.specs.Prelude.{◌≡◌, ◌≢◌, ℕ, ◌+◌, ◌<◌, ◌≤◌, ◌==◌, ◌⊎◌, List, [], ◌∷◌, ◌++◌, All, Any, Contains, if◌then◌else◌, count_by, length, slice_index, slice_index_or, slice_set}
+use Rattle.std.specs.Prelude.{◌≡◌, ◌≢◌, ℕ, ◌+◌, ◌<◌, ◌≤◌, ◌==◌, ◌⊎◌, List, [], ◌∷◌, ◌++◌, All, Any, Contains, if◌then◌else◌, count_by, drop, length, slice_index, slice_index_or, slice_set, take}
+use Rattle.std.specs.List.Sorted.{IsPermutation}
 use Rattle.edge_text.specs.declared.edges.Edge.{Edge}
 use Rattle.edge_text.specs.Edges.{HasEdge}
 use Rattle.levels_engine.specs.declared.plain_levels.TheConstants.{NOT_REACHED}
@@ -28,6 +29,12 @@ marked marking vertex level =
     if level_of marking.levels vertex == NOT_REACHED
     then record { levels = slice_set marking.levels vertex level; queue = marking.queue ++ vertex ∷ [] }
     else marking
+
+-- the vertices from a place of the queue on stand in another order
+pub record Reorders (begin : ℕ) (old new : Marking) : Type 0 where
+  pub levels : new.levels ≡ old.levels
+  pub front : take begin new.queue ≡ take begin old.queue
+  pub rest : IsPermutation (drop begin old.queue) (drop begin new.queue)
 
 -- one of the edges leads to the vertex
 abbrev pub HasTarget : List Edge → ℕ → Type 0

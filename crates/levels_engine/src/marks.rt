@@ -1,5 +1,6 @@
-ghost use Rattle.std.specs.Prelude.{◌≡◌, ◌≢◌, ℕ, ◌<◌, ◌≤◌, [], All, Contains, IfOk, OnOk, length, replicate, slice_index};
-ghost use Rattle.levels_engine.specs.Marks.{HasTarget, IsMarked, MarksMore, marked};
+ghost use Rattle.std.specs.Prelude.{◌≡◌, ◌≢◌, ℕ, ◌<◌, ◌≤◌, [], All, Contains, IfOk, OnOk, drop, length, replicate, slice_index, take};
+ghost use Rattle.std.specs.List.Sorted.{IsPermutation};
+ghost use Rattle.levels_engine.specs.Marks.{HasTarget, IsMarked, MarksMore, Reorders, marked};
 
 use crate::plain_levels::NOT_REACHED;
 use edge_text::Edge;
@@ -22,6 +23,15 @@ impl Model for Marks {
     ghost view = { λ marks. record { levels = marks.levels.items; queue = marks.queue.items } };
 
     ghost invariant = { λ marks. IsMarking marks.levels.items marks.queue.items };
+}
+
+// Puts the numbers from the place on in rising order.
+fn sort_tail(numbers: &mut [u32], begin: usize)
+    requires { begin ≤ length numbers.old }
+    ensures front { take begin numbers.new ≡ take begin numbers.old }
+    ensures rest { IsPermutation (drop begin numbers.old) (drop begin numbers.new) }
+{
+    numbers[begin..].sort_unstable();
 }
 
 impl Marks {
@@ -63,6 +73,15 @@ impl Marks {
             self.levels[vertex as usize] = level;
         }
         Ok(())
+    }
+
+    /// Puts the vertices from the place on in rising order, so that their rows are then read in the
+    /// order of memory.
+    pub fn sort_from(&mut self, begin: usize)
+        requires { begin ≤ length self.old.queue }
+        ensures { Reorders begin self.old self.new }
+    {
+        sort_tail(&mut self.queue, begin);
     }
 
     /// Gives the level to each target that has none.

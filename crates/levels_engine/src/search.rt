@@ -44,6 +44,7 @@ pub fn search(alloc: Global, rows: &Rows, source: u32) -> Result<Vec<u32>, Alloc
     while begin < marks.count() {
         let end = marks.count();
         level += 1;
+        marks.sort_from(begin);
         expand(rows, &mut marks, begin, end, level)?;
         begin = end;
     }

@@ -1,0 +1,5 @@
+pub mod Prefixes
+pub mod Sublists
+pub mod PageSteps
+pub mod BookLaws
+pub mod Legal

@@ -1,0 +1,116 @@
+-- What one caller's page becomes at a step: its own entry, another's entry, a look at the whole history, and a note.
+use Rattle.std.proofs.Common.{◌≡◌, ◌≢◌, ℕ, List, [], ◌∷◌, ◌++◌, refl, ap, sym, ◌∙◌, append_assoc, subst}
+use mathlib.Core.List.{IsPrefix}
+use Rattle.pass_book.specs.declared.entries.Entry.{Entry}
+use Rattle.pass_book.specs.Histories.{entries_of, IsOfOthers, IsOfCallers, IsLegal}
+use Rattle.pass_book.specs.Pages.{Page, IsPage, IsPageOf, Learns, Enters, EntersNothing, longer}
+use Rattle.pass_book.proofs.Prefixes.{prefix_self, prefix_more, prefix_trans, prefix_longer}
+use Rattle.pass_book.proofs.Sublists.{entries_of-append, entries_of-own, entries_of-other, rest_of_others, entries_of-between, entries_of-alone, of_callers-rest}
+use Rattle.std.proofs.lemmas.List.{append-nil}
+
+module _ {Call Reply : Type 0} where
+  -- the page after the caller's own entry
+  abbrev pub page_with : List (Entry Call Reply) → Page Call Reply → Entry Call Reply → Page Call Reply
+  page_with h page e = record { mine = page.mine ++ e ∷ []; seen = h ++ e ∷ [] }
+
+  -- the page after a look at the whole history
+  abbrev pub page_at : List (Entry Call Reply) → Page Call Reply → Page Call Reply
+  page_at h page = record { mine = page.mine; seen = h }
+
+  own_list : (c : ℕ) (h : List (Entry Call Reply)) (e : Entry Call Reply) (mine : List (Entry Call Reply)) → mine ≡ entries_of c h → e.caller ≡ c → mine ++ e ∷ [] ≡ entries_of c (h ++ e ∷ [])
+  own_list c h e mine whole is =
+      ap (λ w. w ++ e ∷ []) whole ∙ (ap (λ w. entries_of c h ++ w) (sym (entries_of-own c e is)) ∙ sym (entries_of-append c h (e ∷ [])))
+
+  -- the caller's own entry
+  pub grown_own : (c : ℕ) (h : List (Entry Call Reply)) (page : Page Call Reply) (e : Entry Call Reply) → IsPageOf c h page → e.caller ≡ c → IsPageOf c (h ++ e ∷ []) (page_with h page e)
+  grown_own c h page e of is = record {
+    whole = own_list c h e page.mine of.whole is;
+    own = own_list c h e page.mine of.whole is;
+    begins = prefix_self (h ++ e ∷ []);
+  }
+
+  -- an entry of another caller
+  pub grown_other : (c : ℕ) (h : List (Entry Call Reply)) (page : Page Call Reply) (e : Entry Call Reply) → IsPageOf c h page → e.caller ≢ c → IsPageOf c (h ++ e ∷ []) page
+  grown_other c h page e of isnt = record {
+    whole = of.whole ∙ (sym (append-nil (entries_of c h)) ∙ (ap (λ w. entries_of c h ++ w) (sym (entries_of-other c e isnt)) ∙ sym (entries_of-append c h (e ∷ []))));
+    own = of.own;
+    begins = prefix_trans page.seen h (h ++ e ∷ []) of.begins (prefix_more h (e ∷ []));
+  }
+
+  -- a look at the whole history
+  pub looked_whole : (c : ℕ) (h : List (Entry Call Reply)) (page : Page Call Reply) → IsPageOf c h page → IsPageOf c h (page_at h page)
+  looked_whole c h page of = record { whole = of.whole; own = of.whole; begins = prefix_self h }
+
+  -- a note that has seen a beginning of the history
+  pub told : (c : ℕ) (h : List (Entry Call Reply)) (page : Page Call Reply) (note : List (Entry Call Reply)) → IsPageOf c h page → IsPrefix note h
+      → IsPageOf c h (page_at (longer page.seen note) page) × Learns page note (page_at (longer page.seen note) page)
+  told c h page note of begins =
+      let all = prefix_longer page.seen note h of.begins begins in
+      let same : entries_of c h ≡ entries_of c page.seen = sym of.whole ∙ of.own in (
+        record {
+          whole = of.whole;
+          own = of.own ∙ sym (entries_of-between c page.seen (longer page.seen note) h all.1 all.0 same);
+          begins = all.0;
+        },
+        record { mine = refl; seen = refl; old_begins = all.1; note_begins = all.2 },
+      )
+
+  -- what was seen between two pages of a caller that made no entry is of others
+  between_of_others : (c : ℕ) (old new : Page Call Reply) → IsPage c old → IsPage c new → new.mine ≡ old.mine → (p : IsPrefix old.seen new.seen) → IsOfOthers c p.0
+  between_of_others c old new own own' mine p = rest_of_others c old.seen new.seen (sym own' ∙ (mine ∙ own)) p
+
+module _ {Call Reply State : Type 0} (opens : State → Type 0) (step : State → Call → Reply → State → Type 0) where
+  -- to its caller the entry is a call with an entry
+  pub enters : (start : State) (c : ℕ) (h : List (Entry Call Reply)) (page : Page Call Reply) (call : Call) (reply : Reply) → IsPageOf c h page
+      → IsLegal opens step start (h ++ record { caller = c; call = call; reply = reply } ∷ [])
+      → Enters opens step start c page (page_with h page record { caller = c; call = call; reply = reply }) call reply
+  enters start c h page call reply of legal =
+      let e : Entry Call Reply = record { caller = c; call = call; reply = reply } in record {
+        before = of.begins.0;
+        seen = ap (λ w. w ++ e ∷ []) (sym of.begins.1);
+        others = rest_of_others c page.seen h (sym of.whole ∙ of.own) of.begins;
+        mine = refl;
+        own = own_list c h e page.mine of.whole refl;
+        legal = legal;
+      }
+
+  -- to its caller a look is a call without an entry
+  pub enters_nothing : (start : State) (c : ℕ) (h : List (Entry Call Reply)) (page : Page Call Reply) → IsPageOf c h page → IsLegal opens step start h → EntersNothing opens step start c page (page_at h page)
+  enters_nothing start c h page of legal = record { mine = refl; seen = of.begins; own = of.whole; legal = legal }
+
+  -- a page whose caller made no entry, and then the entry
+  pub enters_from : (start : State) (c : ℕ) (old mid new : Page Call Reply) (call : Call) (reply : Reply) → IsPage c old → mid.mine ≡ old.mine → IsPrefix old.seen mid.seen → IsPage c mid
+      → Enters opens step start c mid new call reply → Enters opens step start c old new call reply
+  enters_from start c old mid new call reply own mine seen own' then =
+      let e : Entry Call Reply = record { caller = c; call = call; reply = reply } in record {
+        before = seen.0 ++ then.before;
+        seen = then.seen ∙ ap (λ w. w ++ e ∷ []) (ap (λ w. w ++ then.before) (sym seen.1) ∙ append_assoc old.seen seen.0 then.before);
+        others = entries_of-append c seen.0 then.before ∙ (ap (λ w. w ++ entries_of c then.before) (between_of_others c old mid own own' mine seen) ∙ then.others);
+        mine = then.mine ∙ ap (λ w. w ++ e ∷ []) mine;
+        own = then.own;
+        legal = then.legal;
+      }
+
+  -- a look, and then the entry
+  pub enters_after : (start : State) (c : ℕ) (old mid new : Page Call Reply) (call : Call) (reply : Reply) → IsPage c old
+      → EntersNothing opens step start c old mid → Enters opens step start c mid new call reply → Enters opens step start c old new call reply
+  enters_after start c old mid new call reply own first then = enters_from start c old mid new call reply own first.mine first.seen first.own then
+
+  -- one look, and then another
+  pub nothing_after : (start : State) (c : ℕ) (old mid new : Page Call Reply) → EntersNothing opens step start c old mid → EntersNothing opens step start c mid new → EntersNothing opens step start c old new
+  nothing_after start c old mid new first then = record {
+    mine = then.mine ∙ first.mine;
+    seen = prefix_trans old.seen mid.seen new.seen first.seen then.seen;
+    own = then.own;
+    legal = then.legal;
+  }
+
+module _ {Call Reply : Type 0} where
+  -- one caller alone has always seen the whole history
+  pub alone_whole : (h : List (Entry Call Reply)) (page : Page Call Reply) → IsOfCallers 1 h → IsPageOf 0 h page → page.seen ≡ h
+  alone_whole h page all of =
+      let rest : List (Entry Call Reply) = of.begins.0 in
+      let none : entries_of 0 rest ≡ [] = rest_of_others 0 page.seen h (sym of.whole ∙ of.own) of.begins in
+      let mine : IsOfCallers 1 rest = of_callers-rest 1 page.seen rest (subst (IsOfCallers 1) (sym of.begins.1) all) in
+      let empty : rest ≡ [] = sym (entries_of-alone rest mine) ∙ none in
+      sym (append-nil page.seen) ∙ (ap (λ l. page.seen ++ l) (sym empty) ∙ of.begins.1)

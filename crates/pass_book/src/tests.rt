@@ -1,0 +1,26 @@
+use super::*;
+
+// A register that one thread adds to. A call replies what stood there.
+struct Adder;
+
+impl Object for Adder {
+    ghost use Rattle.std.specs.Prelude.{◌≡◌, ◌+◌};
+
+    type Call = u64;
+
+    type Reply = u64;
+
+    type State = u64;
+
+    ghost opens = { λ state. state ≡ 0 };
+
+    ghost step = { λ old call reply new. (reply ≡ old) × (new ≡ old + call) };
+}
+
+#[test]
+fn the_laws_hold_of_an_object() {
+    entry_added::<Adder>();
+    note_taken::<Adder>();
+    shorter_begins_longer::<Adder>();
+    list_is_sublist::<Adder>();
+}

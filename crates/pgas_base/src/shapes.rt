@@ -1,0 +1,136 @@
+ghost use Rattle.std.specs.Prelude.{◌≡◌, ◌↔◌, IsOk, IsErrOf};
+ghost use Rattle.pgas_base.specs.Shapes.{LocalesInRange, TokensInRange, ObjectsInRange, WidthInRange, WordsInRange, IsShape};
+
+use thiserror::Error;
+
+const MOST_LOCALES: u8 = 16;
+
+const MOST_TOKENS: u32 = 1024;
+
+const MOST_OBJECTS: u32 = 0x10_0000;
+
+const LEAST_WIDTH: u32 = 2;
+
+const MOST_WIDTH: u32 = 4096;
+
+const MOST_WORDS: u64 = 0x200_0000;
+
+/// How much there is: the locales, of which each has so many tokens and so many objects, and the
+/// words in the row of an object. Any numbers may stand here; `check` says whether they will do.
+#[derive(Clone, Copy, Debug, PartialEq, Eq)]
+pub struct Shape {
+    /// 1 to 16.
+    pub locales: u8,
+    /// 1 to 1,024 per locale.
+    pub tokens: u32,
+    /// 1 to 2^20 per locale.
+    pub objects: u32,
+    /// 2 to 4,096 words.
+    pub width: u32,
+}
+
+/// The limit that a shape breaks.
+#[derive(Clone, Copy, Debug, PartialEq, Eq, Error)]
+pub enum ShapeFault {
+    #[error("the locales are not 1 to 16")]
+    Locales,
+    #[error("the tokens per locale are not 1 to 1024")]
+    Tokens,
+    #[error("the objects per locale are not 1 to 1048576")]
+    Objects,
+    #[error("the width is not 2 to 4096")]
+    Width,
+    #[error("the objects have more than 33554432 words")]
+    Words,
+}
+
+impl Shape {
+    /// The first limit that the shape breaks, in the order of `ShapeFault`. For the last one an object
+    /// counts two words beside its row.
+    pub fn check(&self) -> Result<(), ShapeFault>
+        ensures ok { IsOk result ↔ IsShape self.now }
+        ensures locales { IsErrOf result ShapeFault.Locales ↔ ¬ LocalesInRange self.now }
+        ensures tokens { IsErrOf result ShapeFault.Tokens ↔
+            (LocalesInRange self.now × ¬ TokensInRange self.now) }
+        ensures objects { IsErrOf result ShapeFault.Objects ↔
+            (LocalesInRange self.now × TokensInRange self.now × ¬ ObjectsInRange self.now) }
+        ensures width { IsErrOf result ShapeFault.Width ↔
+            (LocalesInRange self.now × TokensInRange self.now × ObjectsInRange self.now
+            × ¬ WidthInRange self.now) }
+        ensures words { IsErrOf result ShapeFault.Words ↔
+            (LocalesInRange self.now × TokensInRange self.now × ObjectsInRange self.now
+            × WidthInRange self.now × ¬ WordsInRange self.now) }
+    {
+        if !(1..=MOST_LOCALES).contains(&self.locales) {
+            return Err(ShapeFault::Locales);
+        }
+        if !(1..=MOST_TOKENS).contains(&self.tokens) {
+            return Err(ShapeFault::Tokens);
+        }
+        if !(1..=MOST_OBJECTS).contains(&self.objects) {
+            return Err(ShapeFault::Objects);
+        }
+        if !(LEAST_WIDTH..=MOST_WIDTH).contains(&self.width) {
+            return Err(ShapeFault::Width);
+        }
+        let objects = u64::from(self.locales) * u64::from(self.objects);
+        if objects * (u64::from(self.width) + 2) > MOST_WORDS {
+            return Err(ShapeFault::Words);
+        }
+        Ok(())
+    }
+}
+
+#[cfg(test)]
+mod tests {
+    use super::*;
+
+    const fn shape(locales: u8, tokens: u32, objects: u32, width: u32) -> Shape {
+        Shape {
+            locales,
+            tokens,
+            objects,
+            width,
+        }
+    }
+
+    #[test]
+    fn names_the_first_limit_that_is_broken(rt: HostRuntime) {
+        let rows = [
+            (shape(1, 1, 1, 2), Ok(())),
+            (shape(16, 1024, 270, 4096), Ok(())),
+            (shape(0, 1, 1, 2), Err(ShapeFault::Locales)),
+            (shape(16, 1, 1, 2), Ok(())),
+            (shape(17, 1, 1, 2), Err(ShapeFault::Locales)),
+            (shape(1, 0, 1, 2), Err(ShapeFault::Tokens)),
+            (shape(1, 1024, 1, 2), Ok(())),
+            (shape(1, 1025, 1, 2), Err(ShapeFault::Tokens)),
+            (shape(1, 1, 0, 2), Err(ShapeFault::Objects)),
+            (shape(1, 1, 1_048_576, 2), Ok(())),
+            (shape(1, 1, 1_048_577, 2), Err(ShapeFault::Objects)),
+            (shape(1, 1, 1, 1), Err(ShapeFault::Width)),
+            (shape(1, 1, 1, 4096), Ok(())),
+            (shape(1, 1, 1, 4097), Err(ShapeFault::Width)),
+            (shape(1, 1, 8192, 4094), Ok(())),
+            (shape(1, 1, 8192, 4095), Err(ShapeFault::Words)),
+            (shape(8, 1, 1_048_576, 2), Ok(())),
+            (shape(9, 1, 1_048_576, 2), Err(ShapeFault::Words)),
+            (shape(0, 0, 0, 0), Err(ShapeFault::Locales)),
+            (shape(1, 0, 0, 0), Err(ShapeFault::Tokens)),
+            (shape(1, 1, 0, 0), Err(ShapeFault::Objects)),
+            (shape(16, 1024, 1_048_576, 0), Err(ShapeFault::Width)),
+            (shape(16, 1024, 1_048_576, 4096), Err(ShapeFault::Words)),
+            (
+                shape(u8::MAX, u32::MAX, u32::MAX, u32::MAX),
+                Err(ShapeFault::Locales),
+            ),
+            (
+                shape(16, 1024, u32::MAX, u32::MAX),
+                Err(ShapeFault::Objects),
+            ),
+        ];
+        for (shape, want) in rows {
+            assert_eq!(rt; shape.check(), want, "{shape:?}");
+        }
+    }
+}

@@ -1,0 +1,5 @@
+pub mod BagSteps
+pub mod DequeSteps
+mod DoubleEnded
+pub mod ListSteps
+pub mod Meanings
