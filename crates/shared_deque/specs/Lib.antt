@@ -1,0 +1,14 @@
+pub use Rattle.pass_book.specs.Histories
+pub use Rattle.pass_book.specs.Pages
+pub use Rattle.seq_objects.specs.DequeSteps
+pub use Rattle.seq_objects.specs.Meanings
+pub use Rattle.atomic_table.specs.Seated
+pub mod Words
+pub mod Counted
+pub mod Rule
+pub mod Steps
+pub mod Tries
+pub mod Passes
+pub mod Calls
+pub mod Openings
+pub mod Closings
