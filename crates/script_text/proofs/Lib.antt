@@ -1,0 +1,13 @@
+pub mod Live
+pub mod OneAnswer
+pub mod OneReading
+pub mod Placing
+pub mod Readings
+pub mod RoundTrips
+pub mod Spelling
+pub mod Standings
+pub mod Tables
+pub mod Validity
+pub mod Vocabulary
+pub mod WholeInputs
+pub mod Written

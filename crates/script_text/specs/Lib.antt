@@ -1,0 +1,9 @@
+pub mod Grammar
+pub mod Lines
+pub mod Places
+pub mod Reading
+pub mod Replies
+pub mod ScriptText
+pub mod Scripts
+pub mod Standing
+pub mod Words
