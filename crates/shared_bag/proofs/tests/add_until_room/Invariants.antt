@@ -1,0 +1,6 @@
+use Rattle.std.proofs.Common.{◌≡◌}
+use Rattle.shared_bag.specs.Passes.{pass_opening, opening_of}
+use Rattle.shared_bag.proofs.tests.add_until_room.Given as goal
+
+abbrev pub invariant-loop : goal.invariant-loop
+invariant-loop g l = pass_opening l.pass ≡ opening_of l.bag

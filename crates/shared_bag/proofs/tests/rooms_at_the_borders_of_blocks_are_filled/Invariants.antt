@@ -1,0 +1,9 @@
+use Rattle.std.proofs.Common.{◌≡◌}
+use Rattle.shared_bag.specs.Passes.{pass_opening, opening_of}
+use Rattle.shared_bag.proofs.tests.rooms_at_the_borders_of_blocks_are_filled.Given as goal
+
+abbrev pub invariant-loop-item : goal.invariant-loop-item
+invariant-loop-item g l = pass_opening l.pass ≡ opening_of l.bag
+
+abbrev pub invariant-loop : goal.invariant-loop
+invariant-loop g l = pass_opening l.pass ≡ opening_of l.bag

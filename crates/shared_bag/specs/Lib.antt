@@ -1,0 +1,10 @@
+pub mod Shapes
+pub mod Counted
+pub mod Rule
+pub mod Steps
+pub mod Passes
+pub mod Visits
+pub mod Tries
+pub mod Calls
+pub mod Openings
+pub mod Closings

@@ -1,0 +1,269 @@
+ghost use Rattle.std.specs.Prelude.{◌≡◌, ◌≤◌, ◌+◌, All, length, IfOk, IfSome};
+ghost use Rattle.shared_bag.specs.Passes.{pass_opening, opening_of, callers_of, caller_of};
+ghost use Rattle.shared_bag.specs.Openings.{IsNewPass, ArePassesOf};
+
+use super::*;
+use seq_objects::AnyItem;
+use std::alloc::{AllocError, Global};
+use std::sync::Wait;
+use std::test::Fail;
+use std::thread;
+use std::thread::{Threads, for_each_mut};
+
+// Any thread may use a bag, and each pass may go to another.
+fn crosses<T: Send + Sync>(_shared: &T) {}
+
+fn moves<T: Send>(_sent: &T) {}
+
+// A caller that adds so many items, and removes so many.
+#[derive(Drop)]
+struct Worker {
+    pass: BagPass<AnyItem>,
+    adds: u64,
+    removals: u64,
+    removed: Vec<u64>,
+}
+
+// The items of a caller begin at its number times this.
+const STRIDE: u64 = 10_000;
+
+fn add_until_room<R: Wait>(rt: &R, bag: &Bag<AnyItem>, pass: &mut BagPass<AnyItem>, item: u64)
+    requires { pass_opening pass.old ≡ opening_of bag.now }
+    ensures { pass_opening pass.new ≡ opening_of bag.now }
+{
+    for _ in rt.forever() {
+        if bag.add(rt, pass, item).is_ok() {
+            break;
+        }
+        thread::yield_now();
+    }
+}
+
+fn remove_until_found<R: Wait>(rt: &R, bag: &Bag<AnyItem>, pass: &mut BagPass<AnyItem>) -> u64
+    requires { pass_opening pass.old ≡ opening_of bag.now }
+    ensures { pass_opening pass.new ≡ opening_of bag.now }
+{
+    for _ in rt.forever() {
+        if let Some(item) = bag.remove(rt, pass) {
+            return item;
+        }
+        thread::yield_now();
+    }
+    unreachable!()
+}
+
+fn work<R: Wait>(rt: &R, bag: &Bag<AnyItem>, worker: &mut Worker)
+    requires { pass_opening worker.old.pass ≡ opening_of bag.now }
+{
+    let Worker {
+        pass,
+        adds,
+        removals,
+        removed,
+    } = worker;
+    let base = u64::from(pass.caller()) * STRIDE;
+    for number in 0..*adds {
+        add_until_room(rt, bag, pass, base.wrapping_add(number));
+    }
+    for _ in 0..*removals {
+        let item = remove_until_found(rt, bag, pass);
+        let _ = removed.push(item);
+    }
+}
+
+fn work_all<R: Threads + Wait + Sync>(rt: &R, bag: &Bag<AnyItem>, workers: &mut [Worker])
+    requires { All (λ w. pass_opening w.pass ≡ opening_of bag.now) workers.old }
+{
+    let threads = workers.len();
+    if threads == 0 {
+        return;
+    }
+    for_each_mut(
+        rt,
+        workers,
+        threads,
+        &|_place: usize, worker: &mut Worker|
+            requires { pass_opening worker.old.pass ≡ opening_of bag.now }
+        { work(rt, bag, worker) },
+    );
+}
+
+// The last of the passes.
+fn take_pass(bag: &Bag<AnyItem>, passes: &mut Vec<BagPass<AnyItem>>) -> Option<BagPass<AnyItem>>
+    requires { ArePassesOf bag.now passes.old.items }
+    ensures rest { ArePassesOf bag.now passes.new.items }
+    ensures pass { IfSome result (λ p. IsNewPass bag.now (length passes.new.items) p) }
+    ensures count { IfSome result (λ p. length passes.old.items ≡ length passes.new.items + 1) }
+{
+    passes.pop()
+}
+
+fn close_alone(alloc: Global, bag: Bag<AnyItem>, pass: BagPass<AnyItem>) -> Result<Vec<u64>, Fail>
+    requires opening { pass_opening pass ≡ opening_of bag }
+    requires alone { (callers_of bag ≡ 1) × (caller_of pass ≡ 0) }
+{
+    let mut passes = Vec::new(alloc);
+    let Ok(()) = passes.push(pass) else {
+        return Err("memory".into());
+    };
+    match bag.close(passes) {
+        Ok(closed) => Ok(closed.items),
+        Err(_) => Err("memory".into()),
+    }
+}
+
+// Each caller with its pass: the first ones push, the others pop.
+fn workers_of(
+    alloc: Global,
+    bag: &Bag<AnyItem>,
+    mut passes: Vec<BagPass<AnyItem>>,
+    adders: u32,
+    each: u64,
+) -> Result<Vec<Worker>, Fail>
+    requires { ArePassesOf bag.now passes.items }
+    ensures { IfOk result (λ v. All (λ w. pass_opening w.pass ≡ opening_of bag.now) v.items) }
+{
+    let mut workers = Vec::new(alloc);
+    while let Some(pass) = take_pass(bag, &mut passes) {
+        let adds_items = pass.caller() < adders;
+        let worker = Worker {
+            pass,
+            adds: if adds_items { each } else { 0 },
+            removals: if adds_items { 0 } else { each },
+            removed: Vec::new(alloc),
+        };
+        let Ok(()) = workers.push(worker) else {
+            return Err("memory".into());
+        };
+    }
+    Ok(workers)
+}
+
+// The adders and the removers of a bag, after their work: as many adders as removers, each with so many items.
+fn after_work<R: Threads + Wait + Sync>(
+    rt: &R,
+    alloc: Global,
+    room: u32,
+    adders: u32,
+    each: u64,
+) -> Result<Vec<Worker>, Fail>
+    requires { adders ≤ 512 }
+{
+    let (bag, passes) = Bag::open(alloc, 2, 2, room, 2 * adders, AnyItem)?;
+    let mut workers = workers_of(alloc, &bag, passes, adders, each)?;
+    work_all(rt, &bag, workers.as_mut_slice());
+    Ok(workers)
+}
+
+// All items that were removed, in order of their numbers.
+fn all_removed(alloc: Global, workers: &[Worker]) -> Result<Vec<u64>, AllocError> {
+    let mut all = Vec::new(alloc);
+    for worker in workers {
+        all.extend_from_slice(worker.removed.as_slice())?;
+    }
+    all.sort()?;
+    Ok(all)
+}
+
+// All items that are added, in order of their numbers.
+fn all_added(alloc: Global, adders: u64, each: u64) -> Result<Vec<u64>, AllocError> {
+    let mut all = Vec::new(alloc);
+    for pusher in 0..adders {
+        for number in 0..each {
+            all.push(pusher.wrapping_mul(STRIDE).wrapping_add(number))?;
+        }
+    }
+    Ok(all)
+}
+
+// A bag of one caller, and its pass.
+fn alone(alloc: Global, segments: u32, room: u32) -> Result<(Bag<AnyItem>, BagPass<AnyItem>), Fail>
+    ensures { IfOk result (λ r. (pass_opening r.1 ≡ opening_of r.0) × (callers_of r.0 ≡ 1) × (caller_of r.1 ≡ 0)) }
+{
+    let (bag, mut passes) = match Bag::open(alloc, 1, segments, room, 1, AnyItem) {
+        Ok(opened) => opened,
+        Err(_) => return Err("the bag was not opened".into()),
+    };
+    let Some(pass) = passes.pop() else {
+        return Err("there is no pass".into());
+    };
+    Ok((bag, pass))
+}
+
+#[test]
+fn one_segment_is_filled_and_gives_its_newest(rt: HostRuntime) -> Result<(), Fail> {
+    let (bag, mut pass) = alone(rt.alloc(), 1, 2)?;
+    crosses(&bag);
+    moves(&pass);
+    assert_eq!(rt; bag.try_add(&mut pass, 5), Ok(()));
+    assert_eq!(rt; bag.try_add(&mut pass, 6), Ok(()));
+    assert_eq!(rt; bag.try_add(&mut pass, 7), Err(AddFault::Full));
+    assert_eq!(rt; bag.try_remove(&mut pass), Ok(Some(6)));
+    assert_eq!(rt;
+        close_alone(rt.alloc(), bag, pass)?.as_slice(),
+        [5].as_slice()
+    );
+    Ok(())
+}
+
+#[test]
+fn rooms_at_the_borders_of_blocks_are_filled(rt: HostRuntime) -> Result<(), Fail> {
+    for room in [1, 31, 32, 33] {
+        let (bag, mut pass) = alone(rt.alloc(), 2, room)?;
+        for item in 0..2 * room {
+            assert_eq!(rt; bag.try_add(&mut pass, u64::from(item)), Ok(()));
+        }
+        assert_eq!(rt; bag.try_add(&mut pass, 9), Err(AddFault::Full));
+        for _ in 0..2 * room {
+            assert!(rt; matches!(bag.try_remove(&mut pass), Ok(Some(_))));
+        }
+        assert_eq!(rt; bag.try_remove(&mut pass), Ok(None));
+    }
+    Ok(())
+}
+
+#[test]
+fn each_item_is_taken_once(rt: HostRuntime) -> Result<(), Fail> {
+    let workers = after_work(&rt, rt.alloc(), 33, 2, 1000)?;
+    assert!(rt; all_removed(rt.alloc(), workers.as_slice())? == all_added(rt.alloc(), 2, 1000)?);
+    Ok(())
+}
+
+#[test]
+fn a_remover_lives_from_another_locale(rt: HostRuntime) -> Result<(), Fail> {
+    let workers = after_work(&rt, rt.alloc(), 31, 1, 1000)?;
+    assert!(rt; all_removed(rt.alloc(), workers.as_slice())? == all_added(rt.alloc(), 1, 1000)?);
+    Ok(())
+}
+
+// The fault of an opening, if it is refused.
+fn fault_of(
+    alloc: Global,
+    locales: u8,
+    segments: u32,
+    room: u32,
+    callers: u32,
+) -> Option<BagFault> {
+    Bag::open(alloc, locales, segments, room, callers, AnyItem).err()
+}
+
+#[test]
+fn numbers_out_of_range_are_refused_in_order(rt: HostRuntime) -> Result<(), Fail> {
+    let rows = [
+        (0, 0, 0, 0, BagFault::Locales),
+        (17, 1, 1, 1, BagFault::Locales),
+        (1, 0, 0, 0, BagFault::Segments),
+        (16, 65, 1, 1, BagFault::Segments),
+        (1, 1, 0, 0, BagFault::Room),
+        (1, 64, 16_777_217, 1, BagFault::Room),
+        (1, 1, 1, 0, BagFault::Callers),
+        (1, 1, 1, 1025, BagFault::Callers),
+    ];
+    for (locales, segments, room, callers, want) in rows {
+        assert_eq!(rt;
+            fault_of(rt.alloc(), locales, segments, room, callers),
+            Some(want)
+        );
+    }
+    Ok(())
+}
