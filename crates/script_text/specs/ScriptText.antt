@@ -1,6 +1,6 @@
 -- Which text is that of a script, and where a text is refused.
 use Rattle.std.specs.Prelude.{◌≡◌, ◌≢◌, ◌⊎◌, ℕ, ◌+◌, ◌<◌, ◌≤◌, ◌^◌, List, [], ◌∷◌, ◌++◌, length, replicate, sum_by, slice_index_or, slice_set, Option, Some, None}
-use Rattle.script_text.specs.declared.limits.TooKind.TheVariants.{Bytes, Calls}
+use Rattle.shared_io.specs.declared.limits.TooKind.TheVariants.{Bytes, Calls}
 use Rattle.script_text.specs.declared.scripts.Call.{Call}
 use Rattle.script_text.specs.declared.lines.Line.{Line}
 use Rattle.script_text.specs.declared.lines.Line.TheVariants.{Callers, Round, Call as ACall, End}

@@ -1,6 +1,6 @@
 -- Where a reader stands in a text.
 use Rattle.std.specs.Prelude.{◌≡◌, ◌≢◌, ◌⊎◌, ℕ, ◌+◌, ◌<◌, ◌≤◌, ◌^◌, List, [], ◌∷◌, ◌++◌, length, map, sum_by, Option, Some, None}
-use Rattle.script_text.specs.declared.limits.TooKind.TheVariants.{Calls}
+use Rattle.shared_io.specs.declared.limits.TooKind.TheVariants.{Calls}
 use Rattle.script_text.specs.declared.lines.Line.{Line}
 use Rattle.script_text.specs.declared.lines.Line.TheVariants.{End as EndLine}
 use Rattle.script_text.specs.declared.lines.Stage.{Stage}

@@ -8,10 +8,10 @@ ghost use Rattle.script_text.specs.Standing.{progress_of, IsDraft, HasTaken, Has
 
 use crate::drafts::Draft;
 use crate::faults::ScriptFault;
-use crate::limits::TooKind;
 use crate::lines::Line;
 use crate::places::Place;
 use crate::scripts::Script;
+use shared_io::TooKind;
 use std::alloc::Global;
 
 /// Where bytes have led.

@@ -5,9 +5,9 @@ ghost use Rattle.script_text.specs.ScriptText.{beginning, line_after, before_aft
 ghost use Rattle.script_text.specs.Standing.{progress_of, IsDraft, IsTakeFault};
 
 use crate::faults::ScriptFault;
-use crate::limits::TooKind;
 use crate::lines::{Line, Stage};
 use crate::scripts::{Call, Round, Script};
+use shared_io::TooKind;
 use std::alloc::{AllocError, Global};
 use std::mem;
 

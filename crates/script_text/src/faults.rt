@@ -1,8 +1,7 @@
 ghost use Rattle.std.specs.Prelude.{◌≡◌};
 ghost use Rattle.script_text.specs.declared.faults.ScriptFault.TheVariants.{OutOfMemory, ReadFault};
 
-use crate::limits::TooKind;
-use shared_io::Failed;
+use shared_io::{Failed, TooKind};
 use std::alloc::{AllocError, AllocFailed};
 use thiserror::Error;
 

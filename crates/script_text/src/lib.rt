@@ -9,7 +9,6 @@ mod bytes;
 mod drafts;
 mod faults;
 mod grammar;
-mod limits;
 mod lines;
 mod places;
 mod reader;
@@ -18,7 +17,6 @@ mod scripts;
 mod writer;
 
 pub use faults::ScriptFault;
-pub use limits::TooKind;
 pub use reader::read_script;
 pub use replies::{Left, Replies, Reply};
 pub use scripts::{Call, ObjectLine, Round, Script};

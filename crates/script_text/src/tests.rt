@@ -1,12 +1,11 @@
 ghost use Rattle.std.specs.Prelude.{IfOk};
 ghost use Rattle.script_text.specs.Scripts.{IsValid, plain_script};
 
-use crate::limits::TooKind;
 use crate::{
     Call, Left, ObjectLine, Replies, Reply, Script, ScriptFault, read_script, write_replies,
     write_script,
 };
-use shared_io::SureSource;
+use shared_io::{SureSource, TooKind};
 use std::alloc::Global;
 use std::test::Fail;
 

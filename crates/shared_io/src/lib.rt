@@ -1,4 +1,4 @@
-//! Where bytes come from, where they go, and where a worker may be held.
+//! Where bytes come from, where they go, which limits they keep, and where a worker may be held.
 //!
 //! A `Source` and a `Sink` tell contracts which bytes they have left and which they took, where they
 //! know it, and count their own failures. So a caller can promise that it reports a failure only
@@ -7,11 +7,13 @@
 #![tactic(auto)]
 
 mod gates;
+mod limits;
 mod sinks;
 mod sources;
 #[cfg(test)]
 mod tests;
 
 pub use gates::{Gate, OpenGate, Point};
+pub use limits::TooKind;
 pub use sinks::{Sink, SinkFault, SureSink, WriteSink, write_whole};
 pub use sources::{Failed, ReadSource, Source, SureSource};
