@@ -35,10 +35,7 @@ fn main(rt: HostRuntime) -> ExitCode {
             &mut faults,
             &OpenGate,
         ),
-        Err(status) => {
-            report(status, &mut faults);
-            status
-        }
+        Err(status) => report(status, &mut faults),
     };
     ExitCode::from(status.number())
 }

@@ -1,4 +1,5 @@
 pub mod Lists
-pub mod PlainTexts
+pub mod MadeTexts
+pub mod Offers
 pub mod ReachedFrom
 pub mod Runs

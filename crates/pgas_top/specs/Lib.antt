@@ -1,10 +1,15 @@
 pub use Rattle.edge_text.specs.EdgeText
 pub use Rattle.levels_engine.specs.Levels
 pub use Rattle.levels_engine.specs.Walks
+pub use Rattle.script_engine.specs.Answers
+pub use Rattle.script_engine.specs.Shown
+pub use Rattle.script_text.specs.Replies
+pub use Rattle.script_text.specs.Scripts
+pub use Rattle.script_text.specs.ScriptText
 pub use Rattle.shared_io.specs.Counts
 pub mod Commands
 pub mod Devices
 pub mod LevelsText
+pub mod MadeText
 pub mod Outcome
 pub mod Statuses
-pub mod PlainText

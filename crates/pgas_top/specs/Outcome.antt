@@ -1,43 +1,60 @@
 use Rattle.std.specs.Prelude.{◌≡◌, ℕ, ◌≤◌, ◌^◌, List, ◌++◌, length, Some, ◌⊎◌}
 use Rattle.std.specs.Io.KnownBytes.{Appends, Consumes, IsAtEnd}
 use Rattle.edge_text.specs.declared.edges.Edge.{Edge}
-use Rattle.edge_text.specs.EdgeText.{IsEdgeText, CanGoOn, IsRefused}
+use Rattle.edge_text.specs.EdgeText.{IsEdgeText, CanGoOn, IsRefused as EdgesAreRefused}
+use Rattle.script_engine.specs.Answers.{IsAnswer}
+use Rattle.script_text.specs.declared.faults.ScriptFault.TheVariants.{BadLine, TooLarge as TooLargeScript}
+use Rattle.script_text.specs.declared.replies.Replies.{Replies}
+use Rattle.script_text.specs.Replies.{replies_text}
+use Rattle.script_text.specs.Scripts.{PlainScript}
+use Rattle.script_text.specs.ScriptText.{HasScript, IsOpen, IsRefused as ScriptIsRefused}
+use Rattle.shared_io.specs.declared.limits.TooKind.{TooKind}
 use Rattle.pgas_top.specs.Commands.{Names}
 use Rattle.pgas_top.specs.Devices.{SourceChange, SinkChange, SourceFailed, SinkFailed, IsUnread, IsUnwritten}
 use Rattle.pgas_top.specs.LevelsText.{IsLevelsText}
 use Rattle.pgas_top.specs.Statuses.{line_of, IsTold}
 use Rattle.pgas_top.specs.declared.commands.Command.{Command}
-use Rattle.pgas_top.specs.declared.commands.Command.TheVariants.{Plain}
+use Rattle.pgas_top.specs.declared.commands.Command.TheVariants.{Plain, Run}
 use Rattle.pgas_top.specs.declared.statuses.Status.{Status}
-use Rattle.pgas_top.specs.declared.statuses.Status.TheVariants.{Done, BadWords, BadInput, ReadFault, WriteFault, OutOfMemory}
+use Rattle.pgas_top.specs.declared.statuses.Status.TheVariants.{Done, BadWords, BadInput, ReadFault, WriteFault, OutOfMemory, TooLarge}
 
--- the command accepts the input, which is whole
+-- the text of the replies to the script, for one of its answers
+abbrev pub IsRepliesText : PlainScript → List ℕ → Type 0
+IsRepliesText script text = (replies : Replies) × IsAnswer script replies × (text ≡ replies_text replies)
+
+-- The command accepts the input, which is whole. What stands behind a script's line `end` is no part of it.
 abbrev pub Accepts : Command → List ℕ → Type 0
 Accepts (Plain source) input = (edges : List Edge) × IsEdgeText input edges
+Accepts Run input = (script : PlainScript) × HasScript input (Unit {0}) script
 
--- the command gives the text for the input, which is whole
-abbrev pub Gives : Command → List ℕ → List ℕ → Type 0
-Gives (Plain source) input text = (edges : List Edge) × IsEdgeText input edges × IsLevelsText edges source text
+-- What was read is all that the command asks for: an edge list to the end of the input, or a script to its line `end`.
+-- The command gives the text for it.
+abbrev pub Completes : Command → List ℕ → Type 0 → List ℕ → Type 0
+Completes (Plain source) read ended text = ended × ((edges : List Edge) × IsEdgeText read edges × IsLevelsText edges source text)
+Completes Run read ended text = (script : PlainScript) × HasScript read ended script × IsRepliesText script text
 
 -- what was read is refused at this line, at a byte of it or, where it ended, at its end
 abbrev pub Refuses : Command → List ℕ → Type 0 → ℕ → Type 0
-Refuses (Plain source) read ended line = IsRefused read ended line
+Refuses (Plain source) read ended line = EdgesAreRefused read ended line
+Refuses Run read ended line = ScriptIsRefused read ended (BadLine line)
 
--- no refusal stands at a byte of what was read
+-- what was read exceeds this limit first, at this line
+abbrev pub Exceeds : Command → List ℕ → Type 0 → TooKind → ℕ → Type 0
+Exceeds (Plain source) read ended kind line = ⊥
+Exceeds Run read ended kind line = ScriptIsRefused read ended (TooLargeScript kind line)
+
+-- no refusal stands at a byte of what was read, and a script has no line `end` in it
 abbrev pub Admits : Command → List ℕ → Type 0
 Admits (Plain source) read = CanGoOn read
+Admits Run read = IsOpen read
 
--- Nothing was asked for once a refusal stood: what was read but the last piece could go on.
+-- Nothing was asked for once a refusal or a line `end` stood: what was read but the last piece could go on.
 pub record WasAskedFor (command : Command) (read : List ℕ) : Type 0 where
   pub earlier : List ℕ
   pub piece : List ℕ
   pub parts : read ≡ earlier ++ piece
   pub admitted : Admits command earlier
   pub bounded : length piece ≤ 2 ^ 16
-
--- what was read is a whole input, to its end, and the command gives the text for it
-abbrev pub Completes : Command → List ℕ → Type 0 → List ℕ → Type 0
-Completes command read ended text = ended × Gives command read text
 
 -- the front of the text
 abbrev pub IsFrontOf : List ℕ → List ℕ → Type 0
@@ -48,6 +65,7 @@ abbrev pub Ends : Command → SourceChange → SinkChange → List ℕ → List 
 Ends command source sink read written Done = Completes command read (IsAtEnd source.left_after) written
 Ends command source sink read written BadWords = ⊥
 Ends command source sink read written (BadInput line) = Refuses command read (IsAtEnd source.left_after) line × IsUnwritten sink
+Ends command source sink read written (TooLarge kind line) = Exceeds command read (IsAtEnd source.left_after) kind line × IsUnwritten sink
 Ends command source sink read written ReadFault = SourceFailed source × Admits command read × IsUnwritten sink
 Ends command source sink read written WriteFault = SinkFailed sink × ((text : List ℕ) × Completes command read (IsAtEnd source.left_after) text × IsFrontOf written text)
 Ends command source sink read written OutOfMemory = IsUnwritten sink ⊎ ((text : List ℕ) × Completes command read (IsAtEnd source.left_after) text × IsFrontOf written text)

@@ -3,11 +3,15 @@ use Rattle.std.specs.Fmt.{decimal}
 use Rattle.std.specs.Io.KnownBytes.{Appends}
 use Rattle.edge_text.specs.declared.faults.EdgeFault.{EdgeFault}
 use Rattle.edge_text.specs.declared.faults.EdgeFault.TheVariants as edge
+use Rattle.script_text.specs.declared.faults.ScriptFault.{ScriptFault}
+use Rattle.script_text.specs.declared.faults.ScriptFault.TheVariants as script
+use Rattle.shared_io.specs.declared.limits.TooKind.{TooKind}
+use Rattle.shared_io.specs.declared.limits.TooKind.TheVariants.{Id, Edges, Bytes, Calls}
 use Rattle.shared_io.specs.declared.sinks.SinkFault.{SinkFault}
 use Rattle.shared_io.specs.declared.sinks.SinkFault.TheVariants as sink
 use Rattle.pgas_top.specs.Devices.{SinkChange, SinkFailed, SinkRefused}
 use Rattle.pgas_top.specs.declared.statuses.Status.{Status}
-use Rattle.pgas_top.specs.declared.statuses.Status.TheVariants.{Done, BadWords, BadInput, ReadFault, WriteFault, OutOfMemory}
+use Rattle.pgas_top.specs.declared.statuses.Status.TheVariants.{Done, BadWords, BadInput, ReadFault, WriteFault, OutOfMemory, TooLarge}
 
 -- the program's exit status
 abbrev pub number_of : Status → ℕ
@@ -17,6 +21,14 @@ number_of (BadInput line) = 3
 number_of ReadFault = 4
 number_of WriteFault = 5
 number_of OutOfMemory = 6
+number_of (TooLarge kind line) = 7
+
+-- the limit's name
+abbrev pub limit_name : TooKind → List ℕ
+limit_name Id = codes "id"
+limit_name Edges = codes "edges"
+limit_name Bytes = codes "bytes"
+limit_name Calls = codes "calls"
 
 -- the line on the sink for faults
 abbrev pub line_of : Status → List ℕ
@@ -26,6 +38,7 @@ line_of (BadInput line) = codes "pgas: bad line " ++ decimal line ++ 10 ∷ []
 line_of ReadFault = codes "pgas: read failed\n"
 line_of WriteFault = codes "pgas: write failed\n"
 line_of OutOfMemory = codes "pgas: out of memory\n"
+line_of (TooLarge kind line) = codes "pgas: too large at line " ++ decimal line ++ codes ": " ++ limit_name kind ++ 10 ∷ []
 
 -- The line stands on the sink: whole, or cut where the sink failed or wanted memory.
 pub record IsTold (faults : SinkChange) (line : List ℕ) : Type 0 where
@@ -34,11 +47,18 @@ pub record IsTold (faults : SinkChange) (line : List ℕ) : Type 0 where
   pub taken : Appends faults.taken_before faults.taken_after (take count line)
   pub whole : (count ≡ length line) ⊎ (SinkFailed faults ⊎ SinkRefused faults)
 
--- the status that a fault of the reader comes out as
+-- the status that a fault of the reader of edges comes out as
 abbrev pub IsStatusOf : EdgeFault → Status → Type 0
 IsStatusOf (edge.BadLine line) status = status ≡ BadInput line
 IsStatusOf edge.ReadFault status = status ≡ ReadFault
 IsStatusOf edge.OutOfMemory status = status ≡ OutOfMemory
+
+-- the status that a fault of the reader of scripts comes out as
+abbrev pub IsStatusOfScript : ScriptFault → Status → Type 0
+IsStatusOfScript (script.BadLine line) status = status ≡ BadInput line
+IsStatusOfScript (script.TooLarge kind line) status = status ≡ TooLarge kind line
+IsStatusOfScript script.ReadFault status = status ≡ ReadFault
+IsStatusOfScript script.OutOfMemory status = status ≡ OutOfMemory
 
 -- the status that a fault of the sink comes out as
 abbrev pub IsStatusOfSink : SinkFault → Status → Type 0

@@ -8,6 +8,8 @@ use edge_text::GREATEST_ID;
 pub enum Command {
     /// `plain SOURCE`: the levels of the edge list, from the source, in one thread.
     Plain { source: u32 },
+    /// `run`: the replies to the script.
+    Run,
 }
 
 /// The command that the words name, or `None` where they name none. A number is one or more decimal
@@ -15,14 +17,14 @@ pub enum Command {
 pub fn command_of(words: &[String]) -> Option<Command>
     ensures { MatchOption result ((command : Command) → Names (map string_bytes words.now) command → ⊥) (Names (map string_bytes words.now)) }
 {
-    let [name, word] = words else {
-        return None;
-    };
-    if name.as_str() != "plain" {
-        return None;
+    match words {
+        [name, word] if name.as_str() == "plain" => {
+            let source = number(word.as_str(), GREATEST_ID)?;
+            Some(Command::Plain { source })
+        }
+        [name] if name.as_str() == "run" => Some(Command::Run),
+        _ => None,
     }
-    let source = number(word.as_str(), GREATEST_ID)?;
-    Some(Command::Plain { source })
 }
 
 /// The number that the word is, or `None` where it is none or above the greatest.

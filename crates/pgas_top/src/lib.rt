@@ -7,6 +7,7 @@
 
 mod commands;
 mod levels_text;
+mod made_texts;
 mod program;
 mod statuses;
 #[cfg(test)]

@@ -1,12 +1,14 @@
 ghost use Rattle.std.specs.Prelude.{◌≡◌, ℕ, ◌≤◌, take, length};
 ghost use Rattle.std.specs.Io.KnownBytes.{Appends};
 ghost use Rattle.pgas_top.specs.Devices.{SinkChange};
-ghost use Rattle.pgas_top.specs.Statuses.{number_of, line_of, IsTold};
+ghost use Rattle.pgas_top.specs.Statuses.{number_of, line_of, limit_name, IsTold};
 
 use arrayvec::ArrayString;
 use edge_text::EdgeFault;
 use itoa::Buffer;
-use shared_io::{Sink, SinkFault, write_whole};
+use script_text::ScriptFault;
+use shared_io::{Sink, SinkFault, TooKind, write_whole};
+use std::alloc::AllocError;
 
 /// How a run of the program ended.
 #[derive(Clone, Copy, Debug, PartialEq, Eq)]
@@ -23,6 +25,8 @@ pub enum Status {
     WriteFault,
     /// Memory ran out. The sink has taken nothing, or the front of the text.
     OutOfMemory,
+    /// The line of the input is the first that exceeds a limit.
+    TooLarge { kind: TooKind, line: u64 },
 }
 
 impl Status {
@@ -37,6 +41,7 @@ impl Status {
             Status::ReadFault => 4,
             Status::WriteFault => 5,
             Status::OutOfMemory => 6,
+            Status::TooLarge { .. } => 7,
         }
     }
 
@@ -56,6 +61,13 @@ impl Status {
             Status::ReadFault => text.push_str("pgas: read failed\n"),
             Status::WriteFault => text.push_str("pgas: write failed\n"),
             Status::OutOfMemory => text.push_str("pgas: out of memory\n"),
+            Status::TooLarge { kind, line } => {
+                text.push_str("pgas: too large at line ");
+                text.push_str(Buffer::new().format(line));
+                text.push_str(": ");
+                text.push_str(name_of(kind));
+                text.push('\n');
+            }
         }
         text
     }
@@ -75,6 +87,32 @@ impl From<EdgeFault> for Status {
     }
 }
 
+impl From<ScriptFault> for Status {
+    ghost use Rattle.pgas_top.specs.Statuses.{IsStatusOfScript};
+
+    ghost from_gives = { IsStatusOfScript };
+
+    fn from(fault: ScriptFault) -> Status {
+        match fault {
+            ScriptFault::BadLine { line } => Status::BadInput { line },
+            ScriptFault::TooLarge { kind, line } => Status::TooLarge { kind, line },
+            ScriptFault::ReadFault => Status::ReadFault,
+            ScriptFault::OutOfMemory => Status::OutOfMemory,
+        }
+    }
+}
+
+impl From<AllocError> for Status {
+    ghost use Rattle.std.specs.Prelude.{◌≡◌};
+    ghost use Rattle.pgas_top.specs.declared.statuses.Status.TheVariants.{OutOfMemory};
+
+    ghost from_gives = { λ _ status. status ≡ OutOfMemory };
+
+    fn from(_: AllocError) -> Status {
+        Status::OutOfMemory
+    }
+}
+
 impl From<SinkFault> for Status {
     ghost use Rattle.pgas_top.specs.Statuses.{IsStatusOfSink};
 
@@ -88,9 +126,22 @@ impl From<SinkFault> for Status {
     }
 }
 
-/// Writes the status's line on the sink for faults. The line is whole, unless the sink refuses a
-/// write: then a front of it stands there.
-pub fn report<F: Sink>(status: Status, faults: &mut F)
+/// The limit's name, as it is printed.
+fn name_of(kind: TooKind) -> &'static str
+    ensures { result.now ≡ limit_name kind }
+{
+    match kind {
+        TooKind::Id => "id",
+        TooKind::Edges => "edges",
+        TooKind::Bytes => "bytes",
+        TooKind::Calls => "calls",
+    }
+}
+
+/// Writes the status's line on the sink for faults, and answers the status. The line is whole, unless
+/// the sink refuses a write: then a front of it stands there.
+pub fn report<F: Sink>(status: Status, faults: &mut F) -> Status
+    ensures status { result ≡ status }
     ensures told { IsTold (record {
       taken_before = F.taken faults.old;
       taken_after = F.taken faults.new;
@@ -102,4 +153,5 @@ pub fn report<F: Sink>(status: Status, faults: &mut F)
 {
     let line = status.line();
     let _ = write_whole(faults, line.as_bytes());
+    status
 }

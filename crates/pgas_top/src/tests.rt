@@ -2,8 +2,10 @@
 
 ghost use Rattle.std.specs.Prelude.{None};
 
-use crate::{Status, run};
-use shared_io::{Failed, OpenGate, ReadSource, Sink, Source, SureSink, SureSource, WriteSink};
+use crate::{Status, report, run};
+use shared_io::{
+    Failed, OpenGate, ReadSource, Sink, Source, SureSink, SureSource, TooKind, WriteSink,
+};
 use std::alloc::AllocError;
 use std::io;
 use std::io::{ErrorKind, Read, Write};
@@ -157,7 +159,7 @@ fn bad_lines_are_told(rt: HostRuntime) -> Result<(), Fail> {
 
 #[test]
 fn bad_words_are_told(rt: HostRuntime) -> Result<(), Fail> {
-    let cases: [&[&str]; 8] = [
+    let cases: [&[&str]; 9] = [
         &[],
         &["plain"],
         &["plain", "16777216"],
@@ -166,6 +168,7 @@ fn bad_words_are_told(rt: HostRuntime) -> Result<(), Fail> {
         &["plain", ""],
         &["plain", "0", "0"],
         &["plan", "0"],
+        &["run", "x"],
     ];
     for words in cases {
         let mut source = SureSource::new(Vec::from_slice(rt.alloc(), b"0 1\n")?);
@@ -182,12 +185,15 @@ fn bad_words_are_told(rt: HostRuntime) -> Result<(), Fail> {
 
 #[test]
 fn a_reader_that_fails_is_told(rt: HostRuntime) -> Result<(), Fail> {
-    let mut source = ReadSource::new(Torn { bytes: b"0 1\n" });
-    let mut sink = SureSink::new(rt.alloc());
-    let (status, line) = run_words(&rt, &["plain", "0"], &mut source, &mut sink)?;
-    assert_eq!(rt; status.number(), 4);
-    assert_eq!(rt; line.as_str(), "pgas: read failed\n");
-    assert_eq!(rt; sink.taken(), b"".as_slice());
+    let cases: [(&[&str], &[u8]); 2] = [(&["plain", "0"], b"0 1\n"), (&["run"], b"pgas 1\nobject")];
+    for (words, bytes) in cases {
+        let mut source = ReadSource::new(Torn { bytes });
+        let mut sink = SureSink::new(rt.alloc());
+        let (status, line) = run_words(&rt, words, &mut source, &mut sink)?;
+        assert_eq!(rt; status.number(), 4);
+        assert_eq!(rt; line.as_str(), "pgas: read failed\n");
+        assert_eq!(rt; sink.taken(), b"".as_slice());
+    }
     Ok(())
 }
 
@@ -210,6 +216,124 @@ fn a_writer_that_fails_is_told(rt: HostRuntime) -> Result<(), Fail> {
         assert_eq!(rt; status.number(), 5);
         assert_eq!(rt; line.as_str(), "pgas: write failed\n");
         assert_eq!(rt; taken.as_slice(), text.as_bytes());
+    }
+    Ok(())
+}
+
+#[test]
+fn a_writer_that_fails_has_a_front_of_the_replies(rt: HostRuntime) -> Result<(), Fail> {
+    let mut taken = Vec::new(rt.alloc());
+    let mut source = ReadSource::new(DEQUE.as_bytes());
+    let mut sink = WriteSink::new(Cut {
+        taken: &mut taken,
+        room: 12,
+        fails: true,
+    });
+    let (status, line) = run_words(&rt, &["run"], &mut source, &mut sink)?;
+    assert_eq!(rt; status.number(), 5);
+    assert_eq!(rt; line.as_str(), "pgas: write failed\n");
+    assert_eq!(rt; taken.as_slice(), b"caller 0\npus".as_slice());
+    Ok(())
+}
+
+const DEQUE: &str =
+    "pgas 1\nobject deque 1 1\ncallers 1\ncaller 0\npush_back 1\npush_front 2\npop_back\ntry pop_back\nend\n";
+
+const LIST: &str =
+    "pgas 1\nobject list 1 4 2\ncallers 1\ncaller 0\nwrite 1 7\ngrow 3\nread 1\nread 3\nread 4\ngrow 5\nswap 0 0 9\nswap 0 0 8\nadd 0 18446744073709551615\nend\n";
+
+#[test]
+fn replies_are_printed(rt: HostRuntime) -> Result<(), Fail> {
+    let cases = [
+        (DEQUE, "caller 0\npushed\nfull\ntook 1\nempty\nleft\n"),
+        (
+            LIST,
+            "caller 0\nwrote\nlen 4\nvalue 7\nvalue 0\nrange 4\ntoo long\nwas 0\nwas 9\nwas 9\nleft 8 7 0 0\n",
+        ),
+        (
+            "  pgas\t01 \r\n# a bag\r\n\r\nobject bag 1 1 2\ncallers 1\ncaller 0\nadd 6\nadd 5\nround\n",
+            "",
+        ),
+    ];
+    for (input, text) in cases {
+        let mut sure = SureSource::new(Vec::from_slice(rt.alloc(), input.as_bytes())?);
+        let mut drops = Drops {
+            bytes: input.as_bytes(),
+        };
+        let mut sink = SureSink::new(rt.alloc());
+        let (status, _) = run_words(&rt, &["run"], &mut sure, &mut sink)?;
+        assert_eq!(rt; sink.taken(), text.as_bytes());
+        let mut sink = SureSink::new(rt.alloc());
+        let (again, _) = run_words(&rt, &["run"], &mut drops, &mut sink)?;
+        assert_eq!(rt; again, status, "in pieces of one byte");
+        assert_eq!(rt; sink.taken(), text.as_bytes(), "in pieces of one byte");
+    }
+    Ok(())
+}
+
+#[test]
+fn scripts_are_refused(rt: HostRuntime) -> Result<(), Fail> {
+    let cases = [
+        (
+            "pgas 1\nobject deque 1 1\ncallers 1\n",
+            "pgas: bad line 4\n",
+        ),
+        ("", "pgas: bad line 1\n"),
+        (
+            "# a list\npgas 1\nobject list 1 1 2\n",
+            "pgas: bad line 3\n",
+        ),
+        (
+            "pgas 1\nobject bag 1 1 1\ncallers 2\nend\n",
+            "pgas: bad line 3\n",
+        ),
+        (
+            "pgas 1\nobject epochs 1 1 1 1\ncallers 1\nend\n",
+            "pgas: bad line 2\n",
+        ),
+        (
+            "pgas 1\nobject bag 1 1 1\ncallers 1\nadd 1\nend\n",
+            "pgas: bad line 4\n",
+        ),
+    ];
+    for (input, told) in cases {
+        let mut source = SureSource::new(Vec::from_slice(rt.alloc(), input.as_bytes())?);
+        let mut sink = SureSink::new(rt.alloc());
+        let (status, line) = run_words(&rt, &["run"], &mut source, &mut sink)?;
+        assert_eq!(rt; status.number(), 3);
+        assert_eq!(rt; line.as_str(), told);
+        assert_eq!(rt; sink.taken(), b"".as_slice());
+    }
+    Ok(())
+}
+
+#[test]
+fn a_script_ends_at_its_end_line(rt: HostRuntime) -> Result<(), Fail> {
+    let mut input = String::from_str(rt.alloc(), DEQUE)?;
+    input.push_str("pop_back\n")?;
+    let mut source = Drops {
+        bytes: input.as_bytes(),
+    };
+    let mut sink = SureSink::new(rt.alloc());
+    let (status, _) = run_words(&rt, &["run"], &mut source, &mut sink)?;
+    assert_eq!(rt; status, Status::Done);
+    assert_eq!(rt; source.bytes, b"pop_back\n".as_slice());
+    Ok(())
+}
+
+#[test]
+fn limits_are_named(rt: HostRuntime) -> Result<(), Fail> {
+    let cases = [
+        (TooKind::Id, "pgas: too large at line 7: id\n"),
+        (TooKind::Edges, "pgas: too large at line 7: edges\n"),
+        (TooKind::Bytes, "pgas: too large at line 7: bytes\n"),
+        (TooKind::Calls, "pgas: too large at line 7: calls\n"),
+    ];
+    for (kind, want) in cases {
+        let mut faults = SureSink::new(rt.alloc());
+        let status = report(Status::TooLarge { kind, line: 7 }, &mut faults);
+        assert_eq!(rt; status.number(), 7);
+        assert_eq!(rt; faults.taken(), want.as_bytes());
     }
     Ok(())
 }

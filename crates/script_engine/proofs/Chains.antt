@@ -31,9 +31,11 @@ module _ {State : Type 0} (does : State → Call → Reply → State → Type 0)
 
   -- one call more
   pub has-more : (from mid to : State) (calls more : List Call) (old now new : List Reply) → HasReplied does from calls mid old now → HasReplied does mid more to now new → HasReplied does from (calls ++ more) to old new
-  has-more from mid to calls more old now new first then =
-      (first.0 ++ then.0, replied-append from mid to calls more first.0 then.0 first.1 then.1,
-        then.2 ∙ (ap (λ (l : List Reply). l ++ then.0) first.2 ∙ append_assoc old first.0 then.0))
+  has-more from mid to calls more old now new first then = (
+    first.0 ++ then.0,
+    replied-append from mid to calls more first.0 then.0 first.1 then.1,
+    then.2 ∙ (ap (λ (l : List Reply). l ++ then.0) first.2 ∙ append_assoc old first.0 then.0),
+  )
 
   -- a call
   pub has-one : (from to : State) (call : Call) (reply : Reply) (old : List Reply) → does from call reply to → HasReplied does from (call ∷ []) to old (old ++ reply ∷ [])
@@ -57,8 +59,8 @@ module _ {State : Type 0} (does : State → Call → Reply → State → Type 0)
       let more = has-more from mid to (first_calls before) calls old now new first then in
       let here : first_calls (map plain_round (take (k + 1) rounds)) ≡ first_calls before ++ calls =
       ap (λ (l : List Round). first_calls (map plain_round l)) (take_more rounds k d within)
-          ∙ (ap first_calls (map-append plain_round (take k rounds) (slice_index_or rounds k d ∷ []))
-          ∙ (flat_map-append first_of before (plain_round (slice_index_or rounds k d) ∷ [])
-          ∙ ap (λ (l : List Call). first_calls before ++ l) (append-nil (first_of (plain_round (slice_index_or rounds k d))) ∙ sym is))) in
+      ∙ (ap first_calls (map-append plain_round (take k rounds) (slice_index_or rounds k d ∷ []))
+      ∙ (flat_map-append first_of before (plain_round (slice_index_or rounds k d) ∷ [])
+      ∙ ap (λ (l : List Call). first_calls before ++ l) (append-nil (first_of (plain_round (slice_index_or rounds k d))) ∙ sym is))) in
       let P : List Call → Type 0 = λ l. HasReplied does from l to old new in
       subst P (sym here) more
