@@ -1,5 +1,5 @@
 -- How the text of a command is made of what was read, or why it isn't.
-use Rattle.std.proofs.Common.{◌≡◌, ℕ, List, Some, Result, Ok, Err, Vec, refl, sym, subst}
+use Rattle.std.proofs.Common.{◌≡◌, ℕ, List, Some, Ok, Err, Vec, refl, sym, subst}
 use Rattle.std.specs.declared.alloc.Global.{Global}
 use Rattle.shared_io.specs.Counts.{Rose}
 use Rattle.edge_text.specs.declared.edges.Edge.{Edge}
@@ -24,7 +24,6 @@ use Rattle.pgas_top.specs.MadeText.{IsMadeText}
 use Rattle.pgas_top.specs.Statuses.{IsStatusOf, IsStatusOfScript}
 use Rattle.pgas_top.specs.declared.commands.Command.TheVariants.{Plain, Run}
 use Rattle.pgas_top.specs.declared.statuses.Status.{Status}
-use Rattle.pgas_top.specs.declared.statuses.Status.TheVariants.{OutOfMemory}
 
 -- ---- levels
 

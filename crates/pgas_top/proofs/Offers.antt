@@ -1,5 +1,5 @@
 -- Which words name which commands.
-use Rattle.std.proofs.Common.{◌≡◌, ℕ, List, [], ◌∷◌, codes, length, ap, sym, ◌∙◌, arith}
+use Rattle.std.proofs.Common.{ℕ, List, length, ap, sym, ◌∙◌, arith}
 use Rattle.pgas_top.specs.Commands.{Names, NeedsOneThread}
 use Rattle.pgas_top.specs.declared.commands.Command.{Command}
 use Rattle.pgas_top.specs.declared.commands.Command.TheVariants.{Plain, Run}

@@ -1,3 +1,5 @@
 pub mod Chains
+pub mod OneAnswer
+pub mod Ordered
 pub mod PlainAnswers
 pub mod SingleCaller

@@ -1,25 +1,24 @@
 -- What each plain object replies to a script of one caller is an answer of it.
-use Rattle.std.proofs.Common.{◌≡◌, ◌⊎◌, inl, inr, ℕ, ◌<◌, ◌≤◌, List, [], ◌∷◌, length, slice_index_or, All, map, IsPermutation, refl, ap, sym, ◌∙◌, subst, arith}
+use Rattle.std.proofs.Common.{◌≡◌, ℕ, List, [], ◌∷◌, length, All, IsPermutation, refl, ap, ◌∙◌, subst}
 use Rattle.std.specs.List.Sorted.{IsNonDecreasing}
 use Rattle.seq_objects.specs.BagSteps.{BagStep}
 use Rattle.seq_objects.specs.DequeSteps.{DequeState}
 use Rattle.seq_objects.specs.ListSteps.{ListState, opening_list}
 use Rattle.seq_objects.specs.Meanings.{ListOpens, ListSteps, BagOpens, DequeOpens, DequeSteps}
 use Rattle.script_text.specs.declared.scripts.Call.{Call}
-use Rattle.script_text.specs.declared.scripts.ObjectLine.{ObjectLine}
 use Rattle.script_text.specs.declared.scripts.ObjectLine.TheVariants.{List as AList, Bag as ABag, Deque as ADeque}
 use Rattle.script_text.specs.declared.replies.Reply.{Reply}
 use Rattle.script_text.specs.declared.replies.Replies.{Replies}
 use Rattle.script_text.specs.Replies.{reply_lists, left_items}
-use Rattle.script_text.specs.Scripts.{PlainScript, IsValid, IsRoundOf}
+use Rattle.script_text.specs.Scripts.{PlainScript, IsValid}
 use Rattle.script_engine.specs.declared.objects.ListOfWidth.{ListOfWidth}
-use Rattle.script_engine.specs.Answers.{AnswersOf, IsAnswer}
+use Rattle.script_engine.specs.Answers.{AnswersOf}
 use Rattle.script_engine.specs.Replied.{Does, ListDoes, BagDoes, DequeDoes, Replied, HasAnswered, first_calls}
 use Rattle.script_engine.specs.Shown.{ShowsList, ShowsBag, ShowsDeque, IsTooLong, Never}
 use Rattle.script_engine.proofs.SingleCaller.{answers_alone}
 
 -- each round of a valid script has as many lists as there are callers
-one_each : (script : PlainScript) → IsValid script → script.callers ≡ 1 → All (λ round. length round ≡ 1) script.rounds
+pub one_each : (script : PlainScript) → IsValid script → script.callers ≡ 1 → All (λ round. length round ≡ 1) script.rounds
 one_each script valid alone k d within = (valid.rounds k d within).each ∙ alone
 
 -- the width stays

@@ -1,15 +1,13 @@
 -- What the calls of a single caller do is an answer of its script.
-use Rattle.std.proofs.Common.{◌≡◌, ◌⊎◌, inl, inr, ℕ, zero, suc, ◌+◌, ◌<◌, List, [], ◌∷◌, ◌++◌, length, slice_get, slice_index_or, All, Some, None, arith, refl, ap, sym, ◌∙◌, subst}
+use Rattle.std.proofs.Common.{◌≡◌, inl, inr, ℕ, zero, suc, ◌<◌, List, [], ◌∷◌, ◌++◌, length, slice_get, slice_index_or, All, Some, arith, refl, ap, sym, ◌∙◌, subst}
 use Rattle.std.specs.List.{flat_map}
 use Rattle.pass_book.specs.declared.entries.Entry.{Entry}
-use Rattle.pass_book.specs.Histories.{Leads, Leaves, entries_of, IsOfCallers}
+use Rattle.pass_book.specs.Histories.{Leads, entries_of, IsOfCallers}
 use Rattle.pass_book.proofs.Sublists.{entries_of-alone}
 use Rattle.script_text.specs.declared.scripts.Call.{Call}
 use Rattle.script_text.specs.declared.replies.Reply.{Reply}
-use Rattle.script_text.specs.declared.replies.Replies.{Replies}
-use Rattle.script_text.specs.Replies.{reply_lists, left_items}
 use Rattle.script_text.specs.Scripts.{PlainScript}
-use Rattle.script_engine.specs.Answers.{AreEntered, AnswersRound, AnswersRounds, AreJoined, Answers}
+use Rattle.script_engine.specs.Answers.{AreEntered, AnswersRound, AnswersRounds, Answers}
 use Rattle.script_engine.specs.Replied.{Does, Replied, first_calls}
 
 -- the calls of two lists, made one after another

@@ -5,8 +5,7 @@ use Rattle.std.specs.List.Sorted.{IsNonDecreasing}
 use Rattle.pass_book.specs.declared.entries.Entry.{Entry}
 use Rattle.pass_book.specs.Histories.{Leaves, entries_of, IsOfCallers}
 use Rattle.seq_objects.specs.BagSteps.{BagStep}
-use Rattle.seq_objects.specs.DequeSteps.{DequeState}
-use Rattle.seq_objects.specs.ListSteps.{ListState, opening_list}
+use Rattle.seq_objects.specs.ListSteps.{opening_list}
 use Rattle.seq_objects.specs.Meanings.{ListOpens, ListSteps, BagOpens, DequeOpens, DequeSteps}
 use Rattle.script_text.specs.declared.scripts.ObjectLine.{ObjectLine}
 use Rattle.script_text.specs.declared.scripts.ObjectLine.TheVariants.{List as AList, Bag as ABag, Deque as ADeque}
@@ -14,7 +13,7 @@ use Rattle.script_text.specs.declared.scripts.Call.{Call}
 use Rattle.script_text.specs.declared.replies.Reply.{Reply}
 use Rattle.script_text.specs.declared.replies.Replies.{Replies}
 use Rattle.script_text.specs.Replies.{reply_lists, left_items}
-use Rattle.script_text.specs.Scripts.{PlainScript}
+use Rattle.script_text.specs.Scripts.{PlainScript, IsValid}
 use Rattle.script_engine.specs.Shown.{ShowsList, ShowsBag, ShowsDeque, IsTooLong, Never}
 
 module _ {Asked Told : Type 0} (Shows : Call → Reply → Asked → Told → Type 0) (HasNoEntry : Call → Reply → Type 0) where
@@ -69,3 +68,14 @@ AnswersOf (ADeque locales capacity) script replies items =
 -- The replies are an answer of the script.
 abbrev pub IsAnswer : PlainScript → Replies → Type 0
 IsAnswer script replies = AnswersOf script.object script (reply_lists replies) (left_items replies.left)
+
+-- each step of the object is a function
+abbrev pub IsOrdered : ObjectLine → Type 0
+IsOrdered (AList locales objects width) = Unit {0}
+IsOrdered (ABag locales segments room) = ⊥
+IsOrdered (ADeque locales capacity) = Unit {0}
+
+-- A script of one caller, on a list or a deque, has one answer at most.
+abbrev pub AnswersOnce : Type 0
+AnswersOnce = (script : PlainScript) (replies others : List (List Reply)) (items rest : List ℕ) → IsValid script → script.callers ≡ 1 → IsOrdered script.object
+    → AnswersOf script.object script replies items → AnswersOf script.object script others rest → (replies ≡ others) × (items ≡ rest)

@@ -1,5 +1,5 @@
 -- What a single caller's calls do to its object, one after another.
-use Rattle.std.specs.Prelude.{◌≡◌, ◌⊎◌, ℕ, List, [], ◌∷◌, ◌++◌, length, slice_index_or, All}
+use Rattle.std.specs.Prelude.{◌≡◌, ◌⊎◌, ℕ, List, [], ◌∷◌, ◌++◌, slice_index_or, All}
 use Rattle.std.specs.List.{flat_map}
 use Rattle.seq_objects.specs.BagSteps.{BagStep}
 use Rattle.seq_objects.specs.DequeSteps.{DequeState}

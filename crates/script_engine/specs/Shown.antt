@@ -56,7 +56,7 @@ ShowsDeque call reply asked told = ⊥
 
 -- a Grow past the square of the width is too long, and changes nothing
 abbrev pub IsTooLong : ℕ → Call → Reply → Type 0
-IsTooLong width (OfList call) TooLong = IsDefined width call → ⊥
+IsTooLong width (OfList call) reply = (reply ≡ TooLong) × (IsDefined width call → ⊥)
 IsTooLong width call reply = ⊥
 
 -- each call has its place

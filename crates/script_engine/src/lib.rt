@@ -6,8 +6,10 @@
 #![tactic(auto)]
 
 mod alone;
+mod laws;
 mod objects;
 #[cfg(test)]
 mod tests;
 
 pub use alone::run_alone;
+pub use laws::answers_once;

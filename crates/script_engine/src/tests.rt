@@ -65,3 +65,8 @@ fn rounds_go_on_where_the_last_one_ended(rt: HostRuntime) -> Result<(), Fail> {
     }
     Ok(())
 }
+
+#[test]
+fn the_law_of_answers_holds() {
+    answers_once();
+}

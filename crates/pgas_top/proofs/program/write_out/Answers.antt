@@ -1,4 +1,4 @@
-use Rattle.std.proofs.Common.{Err, Ok, Result, Vec, ℕ, ap, refl, subst}
+use Rattle.std.proofs.Common.{Err, Result, Vec, ℕ, ap, refl, subst}
 use Rattle.std.specs.declared.alloc.Global.{Global}
 use Rattle.pgas_top.specs.MadeText.{IsMadeText}
 use Rattle.pgas_top.specs.declared.statuses.Status.{Status}
