@@ -28,7 +28,7 @@ use Rattle.shared_bag.specs.declared.views.View.{View}
 use Rattle.shared_bag.specs.Shapes.{all_segments, turn_in, turn_place}
 use Rattle.shared_bag.specs.Counted.{BagEntry, LeavesItems, IsLegalBag, items_of, AddsKept}
 use Rattle.shared_bag.specs.Rule.{page_of, HasNoSegment, IsStill, IsLog, IsAt, CallerFits, FitsAs, KnowsPlan, Kept}
-use Rattle.shared_bag.specs.Steps.{reading, count_read, entry, SameCaller, Roams, Acts, FoundAllEmpty, FindsSome, LooksAtCount}
+use Rattle.shared_bag.specs.Steps.{reading, count_read, entry, SameCaller, Roams, Acts, ReadsCount, FoundAllEmpty, FindsSome, LooksAtCount}
 use Rattle.shared_bag.proofs.Items.{no_items, items_none, leaves_empty}
 use Rattle.shared_bag.proofs.Seats.{GrowsBy, stays, adds, Touches, kept_step, caller_fits, caller_knows, caller_after, plan_after}
 
@@ -86,6 +86,37 @@ module _ {K : Type 0} (keeps : ℕ → Type 0) (plan : Plan K) (s : State (Optio
       let same : v.shape.callers ≡ plan.shape.callers = ap (λ k. k.callers) knows.0 in
       let below = fits.below in let most = kept.most_made in omega arith
 
+  -- the count was loaded, and nothing was entered
+  abbrev pub Reads : ℕ → View K → Type 0
+  Reads id v = (w : View K) × Kept keeps plan record { words = set s.words 0 (slice_index s.words 0); homes = s.homes; views = set s.views id w } × ReadsCount v w (slice_index s.words 0)
+
+  pub reads_by : (id : ℕ) (v : View K) → get_elem? s.views id ≡ some v → v.role ≡ Caller → v.stage ≡ Idle → v.joined ≡ [] → Reads id v
+  reads_by id v here role idle none =
+      let c : ℕ = v.number in
+      let h : List BagEntry = kept.history in
+      let items : List ℕ = items_of kept.has (all_segments plan.shape) in
+      let fits = caller_fits keeps plan s kept id v here role in
+      let knows = caller_knows keeps plan s kept id v here role in
+      let at : HasNoSegment (turn_in s.words) (all_segments v.shape) c = subst (λ st. IsAt (turn_in s.words) kept.has v st) idle fits.at in
+      let w : View K = record (reading v (count_read (slice_index s.words 0))) { seen = h } in (
+        w,
+        load_step 0 c id w h fits.seated fits.below (stays c h) kept.log kept.leaves (plan_after plan w role knows)
+            (caller_after (turn_in s.words) kept.has kept.made kept.seat h id w role none fits.below fits.seated (looked_whole c h (page_of v) fits.page) fits.told
+            (subst (λ st. IsAt (turn_in s.words) kept.has w st) (sym idle) at) fits.alone),
+        record {
+          roams = record {
+            same = record { shape = refl; keeper = refl; role = refl; number = refl; joined = refl };
+            enters = enters_nothing BagOpens BagStep [] c h (page_of v) fits.page (items, kept.leaves);
+            looked = refl;
+            meets = (h, fits.page.begins, (items, kept.leaves, sym kept.count), prefix_self h);
+            below = below_callers id v here role;
+            callers = of_callers id v h here role kept.log;
+          };
+          rests = idle;
+          counts = (items, kept.leaves, sym kept.count);
+        },
+      )
+
   abbrev pub Looks : ℕ → View K → Bool → Type 0
   Looks id v b =
       (w : View K) × (a : Act (Option Contents)) × Valid s.homes [] a × Kept keeps plan record { words = set s.words 0 (slice_index s.words 0); homes = s.homes; views = set s.views id w }
@@ -124,31 +155,18 @@ module _ {K : Type 0} (keeps : ℕ → Type 0) (plan : Plan K) (s : State (Optio
         ),
       )
   looks_by id v here role idle none false isnt =
-      let c : ℕ = v.number in
       let n : ℕ = all_segments plan.shape in
-      let h : List BagEntry = kept.history in
-      let items : List ℕ = items_of kept.has n in
       let some' : slice_index s.words 0 ≢ 0 = grind (arith, nat_tests) in
       let fits = caller_fits keeps plan s kept id v here role in
       let knows = caller_knows keeps plan s kept id v here role in
-      let at : HasNoSegment (turn_in s.words) (all_segments v.shape) c = subst (λ st. IsAt (turn_in s.words) kept.has v st) idle fits.at in
-      let w : View K = record (reading v (count_read (slice_index s.words 0))) { seen = h } in (
-        w,
+      let reads = reads_by id v here role idle none in (
+        reads.0,
         holding,
         tt,
-        load_step 0 c id w h fits.seated fits.below (stays c h) kept.log kept.leaves (plan_after plan w role knows)
-            (caller_after (turn_in s.words) kept.has kept.made kept.seat h id w role none fits.below fits.seated (looked_whole c h (page_of v) fits.page) fits.told
-            (subst (λ st. IsAt (turn_in s.words) kept.has w st) (sym idle) at) fits.alone),
+        reads.1,
         record {
-          roams = record {
-            same = record { shape = refl; keeper = refl; role = refl; number = refl; joined = refl };
-            enters = enters_nothing BagOpens BagStep [] c h (page_of v) fits.page (items, kept.leaves);
-            looked = refl;
-            meets = (h, fits.page.begins, (items, kept.leaves, sym kept.count), prefix_self h);
-            below = below_callers id v here role;
-            callers = of_callers id v h here role kept.log;
-          };
-          rests = idle;
+          roams = reads.2.roams;
+          rests = reads.2.rests;
           alone = λ one all.
               let alone = fits.alone (made_alone id v here role one) in
               let all' : (j : ℕ) → j < n → length (kept.has j) ≡ 0 = λ j less.
@@ -163,3 +181,10 @@ pub looks_at_count : {K : Type 0} (keeps : ℕ → Type 0) (plan : Plan K) (slot
 looks_at_count keeps plan slots id me role idle none empty s kept homes here small =
     let all = looks_by keeps plan s kept id me.0 here role idle none (slice_index s.words 0 == 0) refl in
     (all.0, holding, tt, all.3, (all.4, refl))
+
+-- the same, where nothing is entered
+pub reads_count : {K : Type 0} (keeps : ℕ → Type 0) (plan : Plan K) (slots id : ℕ) (me : Me (Option Contents) (View K)) → me.0.role ≡ Caller → me.0.stage ≡ Idle → me.0.joined ≡ [] → me.1 ≡ []
+    → Allows (Kept keeps plan) slots id me 0 (λ n. n) (λ found m'. ReadsCount me.0 m'.0 found × (m'.1 ≡ me.1))
+reads_count keeps plan slots id me role idle none empty s kept homes here small =
+    let all = reads_by keeps plan s kept id me.0 here role idle none in
+    (all.0, holding, tt, all.1, (all.2, refl))

@@ -4,8 +4,10 @@ use Rattle.std.specs.Prelude.{IsPermutation}
 use Rattle.std.proofs.lemmas.List.Sorted.{IsPermutation-sym, IsPermutation-to_front, IsPermutation-append, IsPermutation-refl, length_permutation}
 use mathlib.Core.Logic.{dite}
 use native.Mathlib.Decide.{ℕ_discrete}
-use Rattle.pass_book.specs.Histories.{Leaves}
+use Rattle.pass_book.specs.Histories.{Leads, Leaves}
 use Rattle.pass_book.proofs.Legal.{leaves-snoc}
+use Rattle.seq_objects.specs.declared.bags.BagCall.{BagCall}
+use Rattle.seq_objects.specs.declared.bags.BagReply.{BagReply}
 use Rattle.seq_objects.specs.declared.bags.BagCall.TheVariants.{Add, Remove}
 use Rattle.seq_objects.specs.declared.bags.BagReply.TheVariants.{Added, Took, Empty}
 use Rattle.seq_objects.specs.BagSteps.{BagStep}
@@ -87,3 +89,19 @@ leaves_taken h items new caller item leaves fewer = leaves-snoc BagOpens BagStep
 
 pub leaves_empty : (h : List BagEntry) (items : List ℕ) (caller : ℕ) → LeavesItems h items → items ≡ [] → LeavesItems (h ++ entry caller Remove Empty ∷ []) items
 leaves_empty h items caller leaves none = leaves-snoc BagOpens BagStep [] h items items (entry caller Remove Empty) leaves (none, none)
+
+step_count : (old old' new new' : List ℕ) (call : BagCall) (reply : BagReply) → length old ≡ length old' → BagStep old call reply new → BagStep old' call reply new' → length new ≡ length new'
+step_count old old' new new' (Add item) Added same a b = let long = length_permutation (item ∷ old) new a in let long' = length_permutation (item ∷ old') new' b in omega arith
+step_count old old' new new' (Add item) (Took other) same a b = absurd a
+step_count old old' new new' (Add item) Empty same a b = absurd a
+step_count old old' new new' Remove Added same a b = absurd a
+step_count old old' new new' Remove (Took item) same a b = let long = length_permutation old (item ∷ new) a in let long' = length_permutation old' (item ∷ new') b in omega arith
+step_count old old' new new' Remove Empty same a b = ap length (a.1 ∙ sym b.1)
+
+leads_count : (from from' to to' : List ℕ) (h : List BagEntry) → length from ≡ length from' → Leads BagOpens BagStep from h to → Leads BagOpens BagStep from' h to' → length to ≡ length to'
+leads_count from from' to to' [] same a b = sym (ap length a) ∙ (same ∙ ap length b)
+leads_count from from' to to' (e ∷ h) same a b = leads_count a.0 b.0 to to' h (step_count from from' a.0 b.0 e.call e.reply same a.1 b.1) a.2 b.2
+
+-- how many items a history leaves
+pub one_count : (h : List BagEntry) (items items' : List ℕ) → LeavesItems h items → LeavesItems h items' → length items ≡ length items'
+one_count h items items' a b = leads_count [] [] items items' h refl a.1 b.1

@@ -8,6 +8,7 @@ use native.Mathlib.Decide.{ℕ_discrete}
 use lib.ListN.{get_elem?}
 use Rattle.atomic_table.specs.Table.{State, Final, Seen}
 use Rattle.segment_store.specs.Contents.{Contents}
+use Rattle.pass_book.specs.Histories.{IsOfCallers}
 use Rattle.pass_book.specs.Pages.{IsPageOf}
 use Rattle.pass_book.proofs.Sublists.{of_callers-le}
 use Rattle.shared_bag.specs.declared.bags.Bag.{Bag}
@@ -17,13 +18,15 @@ use Rattle.shared_bag.specs.declared.views.Role.TheVariants.{Caller}
 use Rattle.shared_bag.specs.declared.views.Stage.TheVariants.{Idle}
 use Rattle.shared_bag.specs.declared.views.View.{View}
 use Rattle.shared_bag.specs.Shapes.{all_segments, turn_in}
-use Rattle.shared_bag.specs.Counted.{BagEntry, LeavesItems, items_of}
+use Rattle.shared_bag.specs.Counted.{BagEntry, LeavesItems, CountsAtMost, items_of}
 use Rattle.shared_bag.specs.Rule.{page_of, page_joined, IsAt, HasNoSegment, JoinedFits, Kept}
 use Rattle.shared_bag.specs.Passes.{caller_of, callers_of, page}
 use Rattle.shared_bag.specs.Closings.{AreOfAllCallers, ClosesWith, Gathered, stored}
-use Rattle.shared_bag.proofs.Items.{items_same}
+use Rattle.shared_bag.proofs.Items.{items_same, one_count}
 use Rattle.shared_bag.proofs.Seats.{caller_fits, caller_knows}
-use Rattle.shared_bag.proofs.Pours.{stored_there, items_fit, leaves_in_any_order}
+use Rattle.shared_bag.proofs.Pours.{stored_there, leaves_in_any_order}
+use Rattle.shared_bag.proofs.Gathers.{all_mid}
+use Rattle.shared_bag.proofs.LooksBack.{snoc_view, last_sees_whole}
 
 -- one of the list has this number, and what holds of each holds of it
 contained : {A : Type 0} (f : A → ℕ) (P : A → Type 0) (xs : List A) (c : ℕ) → All P xs → Contains (map f xs) c → (a : A) × P a × (f a ≡ c)
@@ -87,15 +90,33 @@ module _ {K : Type 0} (keeps : ℕ → Type 0) (b : Bag K) where
       let home = (kept.segments k within).home free in
       stored_there slots k _ (last.4 k (Some (record { items = kept.has k; spare = home.0 })) home.1)
 
-  -- all items fit in as many places as the bag has room for
-  pub closed_room : (words : List ℕ) (slots : List (Option Contents)) (id : ℕ) (v : View K) (passes : List (BagPass K)) → Final (Seen (Kept keeps b.table.shared.key) id v) words slots
-      → v.role ≡ Caller → v.stage ≡ Idle → All (Gathered v) passes → AreOfAllCallers b passes
-      → length (items_of (stored slots) (all_segments b.table.shared.key.shape)) ≤ all_segments b.table.shared.key.shape * b.table.shared.key.shape.room
-  closed_room words slots id v passes last role idle gathered every =
+  -- all items are no more than the greatest of the counts that the passes have read
+  pub closed_room : (words : List ℕ) (slots : List (Option Contents)) (id : ℕ) (v : View K) (passes : List (BagPass K)) (most : ℕ) → Final (Seen (Kept keeps b.table.shared.key) id v) words slots
+      → v.role ≡ Caller → v.stage ≡ Idle → All (Gathered v) passes → AreOfAllCallers b passes → All (λ p. CountsAtMost (page p).seen most) passes
+      → length (items_of (stored slots) (all_segments b.table.shared.key.shape)) ≤ most
+  closed_room words slots id v passes most last role idle gathered every counts =
+      let plan : Plan K = b.table.shared.key in
+      let s : State (Option Contents) (View K) = last.0 in
       let kept = last.1.0 in
-      let n : ℕ = all_segments b.table.shared.key.shape in
-      let same = items_same n kept.has (stored slots) (are_stored words slots id v passes last role idle gathered every) in
-      subst (λ l. length l ≤ n * b.table.shared.key.shape.room) (sym same) (items_fit n b.table.shared.key.shape.room kept.has (λ j less. (kept.segments j less).short))
+      let n : ℕ = all_segments plan.shape in
+      let h : List BagEntry = kept.history in
+      let items : List ℕ = items_of kept.has n in
+      let same : items_of (stored slots) n ≡ items = items_same n kept.has (stored slots) (are_stored words slots id v passes last role idle gathered every) in
+      let few : length items ≤ most =
+      ⊎_elim
+      (λ none. let left : LeavesItems [] items = subst (λ l. LeavesItems l items) none kept.leaves in let long = ap length left.1 in omega arith)
+      (λ t.
+      let front : List BagEntry = t.0 in
+      let e : BagEntry = t.1 in
+      let below : e.caller < kept.made = all_mid (λ (x : BagEntry). x.caller < kept.made) front e [] (subst (IsOfCallers kept.made) t.2 kept.log.callers) in
+      let one = contained caller_of (λ p. Gathered v p × CountsAtMost (page p).seen most) passes e.caller (λ k d within. (gathered k d within, counts k d within)) (every e.caller (let most_made = kept.most_made in omega arith)) in
+      let fits = page_fits keeps plan s kept id v last.1.1 role idle one.0 one.1.0 in
+      let whole : (page one.0).seen ≡ h = last_sees_whole (caller_of one.0) front e (page one.0) (sym one.2) (subst (λ l. IsPageOf (caller_of one.0) l (page one.0)) t.2 fits) ∙ sym t.2 in
+      let read = one.1.1 in
+      let long = one_count h items read.0 kept.leaves (subst (λ l. LeavesItems l read.0) whole read.1) in
+      let least = read.2 in omega arith)
+      (snoc_view h) in
+      subst (λ l. length l ≤ most) (sym same) few
 
   -- the last state shows the one history
   pub closes : (words : List ℕ) (slots : List (Option Contents)) (id : ℕ) (v : View K) (passes : List (BagPass K)) (items : List ℕ) (n : ℕ) → Final (Seen (Kept keeps b.table.shared.key) id v) words slots

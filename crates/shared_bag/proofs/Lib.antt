@@ -15,4 +15,5 @@ pub mod WaitSteps
 pub mod PassJoins
 pub mod Gathers
 pub mod Pours
+pub mod LooksBack
 pub mod LastStates

@@ -51,14 +51,6 @@ fewer_items has n (suc m) least =
     (λ same. subst (λ k. length (items_of has k) ≤ length (items_of has (suc m))) (sym same) (omega arith))
     (λ away. let front = fewer_items has n m (omega arith) in let long = length-append (items_of has m) (has m) in omega arith)
 
--- segments of so much room
-pub items_fit : (n room : ℕ) (has : ℕ → List ℕ) → ((j : ℕ) → j < n → length (has j) ≤ room) → length (items_of has n) ≤ n * room
-items_fit zero room has short = omega arith
-items_fit (suc n) room has short =
-    let front = items_fit n room has (λ j less. short j (omega arith)) in
-    let last = short n (omega arith) in
-    omega (arith, length-append (items_of has n) (has n))
-
 step_on : (old new new' : List ℕ) (call : BagCall) (reply : BagReply) → BagStep old call reply new → IsPermutation new new' → BagStep old call reply new'
 step_on old new new' (Add item) Added step same = IsPermutation-trans _ _ _ step same
 step_on old new new' (Add item) (Took other) step same = absurd step

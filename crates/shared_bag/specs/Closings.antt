@@ -1,6 +1,7 @@
 -- What the closing of a bag asks and gives.
-use Rattle.std.specs.Prelude.{◌≡◌, ◌⊎◌, ℕ, ◌<◌, List, [], map, slice_get, Option, Some, None, All, Contains}
+use Rattle.std.specs.Prelude.{◌≡◌, ◌⊎◌, ℕ, ◌<◌, List, [], ◌∷◌, ◌++◌, length, map, slice_get, Option, Some, None, All, Contains}
 use mathlib.Core.Option.{none, some}
+use mathlib.Core.List.{IsPrefix}
 use lib.ListN.{get_elem?}
 use Rattle.segment_store.specs.Contents.{Contents}
 use Rattle.pass_book.specs.Histories.{IsOfCallers}
@@ -9,9 +10,11 @@ use Rattle.shared_bag.specs.declared.bags.Bag.{Bag}
 use Rattle.shared_bag.specs.declared.passes.BagPass.{BagPass}
 use Rattle.shared_bag.specs.declared.views.Joined.{Joined}
 use Rattle.shared_bag.specs.declared.views.View.{View}
-use Rattle.shared_bag.specs.Counted.{BagEntry, LeavesItems, AddsKept}
+use Rattle.shared_bag.specs.Counted.{BagEntry, LeavesItems, Counts, AddsKept}
 use Rattle.shared_bag.specs.Rule.{page_of, page_joined}
-use Rattle.shared_bag.specs.Passes.{opening_of, callers_of, pass_opening, caller_of, page}
+use Rattle.shared_bag.specs.Steps.{count_read}
+use Rattle.shared_bag.specs.Passes.{opening_of, callers_of, pass_opening, caller_of, page, looked}
+use Rattle.shared_bag.specs.Calls.{IsSamePass}
 
 module _ {K : Type 0} (b : Bag K) (passes : List (BagPass K)) where
   -- the passes come from the opening of the bag
@@ -30,6 +33,20 @@ module _ {K : Type 0} (b : Bag K) (passes : List (BagPass K)) where
     pub callers : IsOfCallers (callers_of b) history
     pub kept : All (λ (e : BagEntry). AddsKept keeps e.call) history
     pub pages : All (λ p. IsPageOf (caller_of p) history (page p)) passes
+
+-- It is the same caller's pass, with the same entries. It has looked at the count once: this is the one word more that it has read, and it
+-- has seen no less than before, a history that leaves so many items
+pub record HasLooked {K : Type 0} (old new : BagPass K) (count : ℕ) : Type 0 where
+  pub same : IsSamePass old new
+  pub mine : (page new).mine ≡ (page old).mine
+  pub seen : IsPrefix (page old).seen (page new).seen
+  pub looked : looked new ≡ looked old ++ count_read count ∷ []
+  pub counts : Counts (page new).seen count
+
+-- each pass has looked at the count once, and all else of it is as it was
+pub record HaveLooked {K : Type 0} (old new : List (BagPass K)) : Type 0 where
+  pub many : length new ≡ length old
+  pub each : (k : ℕ) (p q : BagPass K) → slice_get old k ≡ Some p → slice_get new k ≡ Some q → (count : ℕ) × HasLooked p q count
 
 -- a view has the page of a pass: as its own, or of one that it took in
 abbrev pub Gathered : {K : Type 0} → View K → BagPass K → Type 0

@@ -38,6 +38,10 @@ Counts h n = (items : List ℕ) × LeavesItems h items × (length items ≡ n)
 abbrev pub CountsAtLeast : List BagEntry → ℕ → Type 0
 CountsAtLeast h n = (items : List ℕ) × LeavesItems h items × (n ≤ length items)
 
+-- the history leaves at most so many items
+abbrev pub CountsAtMost : List BagEntry → ℕ → Type 0
+CountsAtMost h n = (items : List ℕ) × LeavesItems h items × (length items ≤ n)
+
 -- the items of the first n segments
 abbrev pub items_of : (ℕ → List ℕ) → ℕ → List ℕ
 items_of has zero = []

@@ -91,6 +91,12 @@ module _ {K : Type 0} where
     pub below : v.number < v.shape.callers
     pub callers : IsOfCallers v.shape.callers w.seen
 
+  -- The count was read, and nothing was entered. What is seen from then on has just so many items
+  pub record ReadsCount (v w : View K) (found : ℕ) : Type 0 where
+    pub roams : Roams v w (count_read found ∷ [])
+    pub rests : w.stage ≡ Idle
+    pub counts : Counts w.seen found
+
   -- every segment was found empty
   abbrev pub FoundAllEmpty : View K → Type 0
   FoundAllEmpty v = (segment : ℕ) → segment < all_segments v.shape → Contains v.found (record { segment = segment; length = 0 })

@@ -3,9 +3,9 @@ ghost use Rattle.std.specs.Prelude.{◌≡◌, ◌+◌, ◌*◌, ◌<◌, ◌≤
 ghost use Rattle.std.specs.Slots.{slots_items, slots_len, IsFull};
 ghost use Rattle.shared_bag.specs.declared.views.Role.TheVariants.{Caller};
 ghost use Rattle.shared_bag.specs.declared.views.Stage.TheVariants.{Idle};
-ghost use Rattle.shared_bag.specs.Counted.{items_of};
-ghost use Rattle.shared_bag.specs.Passes.{keeper_of};
-ghost use Rattle.shared_bag.specs.Closings.{AreOfOpening, AreOfAllCallers, ClosesWith, Gathered, stored};
+ghost use Rattle.shared_bag.specs.Counted.{CountsAtMost, items_of};
+ghost use Rattle.shared_bag.specs.Passes.{keeper_of, opening_of, page, pass_opening};
+ghost use Rattle.shared_bag.specs.Closings.{AreOfOpening, AreOfAllCallers, ClosesWith, Gathered, HasLooked, HaveLooked, stored};
 
 use crate::bags::Bag;
 use crate::passes::BagPass;
@@ -22,7 +22,8 @@ pub struct ClosedBag {
     pub items: Vec<u64>,
 }
 
-/// There was no memory for the items. The bag and the passes come back untouched.
+/// There was no memory for the items. The bag comes back untouched, and so do the passes, but that each has
+/// looked at the count once.
 #[derive(Drop)]
 pub struct BagBack<K: Keeps> {
     pub bag: Bag<K>,
@@ -86,18 +87,40 @@ fn read_segments(
 }
 
 impl<K: Keeps> Bag<K> {
-    /// Closes the bag, with the passes of all its callers, and gives what it holds. It first takes memory
-    /// for as many items as the bag has room for. Where there is none, the bag and the passes come back as
-    /// they were.
-    pub fn close(self, passes: Vec<BagPass<K>>) -> Result<ClosedBag, BagBack<K>>
+    // Loads the count with one pass.
+    fn look_with(&self, pass: &mut BagPass<K>) -> u64
+        requires { pass_opening pass.old ≡ opening_of self.now }
+        ensures { HasLooked pass.old pass.new result }
+    {
+        self.read_count(&mut pass.seat)
+    }
+
+    // Loads the count with each pass, and gives the greatest that was read. The caller of the last entry
+    // of all can't have read less than the bag has.
+    fn most_items(&self, passes: &mut [BagPass<K>]) -> u64
+        requires { AreOfOpening self.now passes.old }
+        ensures looked { HaveLooked passes.old passes.new }
+        ensures most { All (λ p. CountsAtMost (page p).seen result) passes.new }
+    {
+        let mut most = 0;
+        for pass in passes.iter_mut() {
+            most = most.max(self.look_with(pass));
+        }
+        most
+    }
+
+    /// Closes the bag, with the passes of all its callers, and gives what it holds. It first looks at the
+    /// count with each pass, and takes memory for that many items. Where there is none, the bag and the
+    /// passes come back.
+    pub fn close(self, mut passes: Vec<BagPass<K>>) -> Result<ClosedBag, BagBack<K>>
         requires opening { AreOfOpening self passes.items }
         requires all { AreOfAllCallers self passes.items }
         ensures ok { IfOk result (λ closed. ClosesWith self passes.items (K.keeps (keeper_of self)) closed.items.items) }
-        ensures err { IfErr result (λ back. (back.bag ≡ self) × (back.passes ≡ passes)) }
+        ensures err { IfErr result (λ back. (back.bag ≡ self) × HaveLooked passes.items back.passes.items) }
     {
         let segments = self.shape.all_segments();
-        let room = segments as usize * self.shape.room as usize;
-        let Ok(items) = Vec::with_capacity(self.alloc, room) else {
+        let most = self.most_items(passes.as_mut_slice());
+        let Ok(items) = Vec::with_capacity(self.alloc, most as usize) else {
             return Err(BagBack { bag: self, passes });
         };
         let Bag {

@@ -26,6 +26,16 @@ impl<K> Play<Option<Segment>, View<K>> for CountLook {
     ghost then = { λ _ m found n. LooksAtCount m.0 found n.0 × (n.1 ≡ m.1) };
 }
 
+/// The count is read where a bag is closed, which is no removal and has no entry.
+pub struct ReadCount;
+
+impl<K> Play<Option<Segment>, View<K>> for ReadCount {
+    ghost use Rattle.std.specs.Prelude.{◌≡◌};
+    ghost use Rattle.shared_bag.specs.Steps.{ReadsCount};
+
+    ghost then = { λ _ m found n. ReadsCount m.0 n.0 found × (n.1 ≡ m.1) };
+}
+
 pub struct Claim;
 
 impl<K> Play<Option<Segment>, View<K>> for Claim {

@@ -4,11 +4,13 @@ ghost use Rattle.std.specs.Prelude.{◌≡◌, ◌≢◌, ℕ, List, ◌+◌, �
 ghost use Rattle.segment_store.specs.Contents.{Contents};
 ghost use Rattle.shared_bag.specs.declared.views.Stage.TheVariants.{Idle, Claimed, Counted};
 ghost use Rattle.shared_bag.specs.Shapes.{all_segments};
-ghost use Rattle.shared_bag.specs.Steps.{Acts, FindsSome, GetsTurn, FindsHeld, count_read, CountsUp, CountsLastDown, LeavesAsFound, LeavesCounted, IsBack};
+ghost use Rattle.shared_bag.specs.Steps.{Acts, FindsSome, GetsTurn, FindsHeld, count_read, ReadsCount, CountsUp, CountsLastDown, LeavesAsFound, LeavesCounted, IsBack};
 ghost use Rattle.shared_bag.specs.Passes.{IsSeatOf, keeper_of, shape_of};
 
 use crate::bags::Bag;
-use crate::plays::{Adds, Claim, CountDown, CountLook, CountUp, LeaveAsFound, LeaveCounted};
+use crate::plays::{
+    Adds, Claim, CountDown, CountLook, CountUp, LeaveAsFound, LeaveCounted, ReadCount,
+};
 use crate::views::View;
 use crate::words::{COUNT, turn_at};
 use atomic_table::Seat;
@@ -27,6 +29,17 @@ impl<K: Keeps> Bag<K> {
         ensures empty_handed { seat.new.me.1 ≡ [] }
     {
         self.table.shared.load::<CountLook>(seat, COUNT)
+    }
+
+    /// Loads the count for a close, which has no entry.
+    pub(crate) fn read_count(&self, seat: &mut Seat<Option<Segment>, View<K>>) -> u64
+        requires seat { IsSeatOf self.now seat.old }
+        requires rests { (seat.old.me.0.stage ≡ Idle) × (seat.old.me.1 ≡ []) }
+        ensures seat { IsSeatOf self.now seat.new }
+        ensures reads { ReadsCount seat.old.me.0 seat.new.me.0 result }
+        ensures empty_handed { seat.new.me.1 ≡ [] }
+    {
+        self.table.shared.load::<ReadCount>(seat, COUNT)
     }
 
     /// Exchanges a segment's turn from nobody's to the caller's.
