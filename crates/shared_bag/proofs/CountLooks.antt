@@ -1,5 +1,5 @@
 -- The count look: a call loads the count, and a removal has its entry there where it is 0.
-use Rattle.std.proofs.Common.{◌≡◌, ◌≢◌, ℕ, zero, suc, ◌+◌, ◌*◌, ◌<◌, ◌≤◌, ◌==◌, Bool, true, false, List, [], ◌∷◌, ◌++◌, length, set, refl, ap, sym, ◌∙◌, subst, arith, inl, inr, slice_index, get_or, Option, Some}
+use Rattle.std.proofs.Common.{◌≡◌, ◌≢◌, ℕ, zero, suc, ◌<◌, ◌≤◌, ◌==◌, Bool, true, false, List, [], ◌∷◌, ◌++◌, length, set, refl, ap, sym, ◌∙◌, subst, arith, inl, slice_index, Option}
 use Rattle.std.specs.Prelude.{MatchBool, Contains}
 use Rattle.std.specs.List.{All}
 use Rattle.std.proofs.lemmas.Bool.Decides.{nat_tests}
@@ -9,26 +9,22 @@ use mathlib.Core.Option.{some}
 use lib.ListN.{get_elem?}
 use Rattle.atomic_table.specs.Table.{State, Me, Act, keeps as holding, Allows, Valid}
 use Rattle.segment_store.specs.Contents.{Contents}
-use Rattle.pass_book.specs.Pages.{IsPageOf}
 use Rattle.pass_book.specs.Histories.{IsOfCallers}
 use Rattle.pass_book.proofs.Prefixes.{prefix_self, prefix_more, prefix_trans}
 use Rattle.pass_book.proofs.Sublists.{of_callers-le, of_callers-more}
 use Rattle.pass_book.proofs.PageSteps.{grown_own, looked_whole, enters, enters_nothing}
-use Rattle.seq_objects.specs.declared.bags.BagCall.{BagCall}
-use Rattle.seq_objects.specs.declared.bags.BagCall.TheVariants.{Add, Remove}
-use Rattle.seq_objects.specs.declared.bags.BagReply.{BagReply}
-use Rattle.seq_objects.specs.declared.bags.BagReply.TheVariants.{Added, Took, Empty}
+use Rattle.seq_objects.specs.declared.bags.BagCall.TheVariants.{Remove}
+use Rattle.seq_objects.specs.declared.bags.BagReply.TheVariants.{Empty}
 use Rattle.seq_objects.specs.BagSteps.{BagStep}
 use Rattle.seq_objects.specs.Meanings.{BagOpens}
 use Rattle.shared_bag.specs.declared.views.Plan.{Plan}
 use Rattle.shared_bag.specs.declared.views.Role.TheVariants.{Caller}
 use Rattle.shared_bag.specs.declared.views.Stage.TheVariants.{Idle}
-use Rattle.shared_bag.specs.declared.views.Found.{Found}
 use Rattle.shared_bag.specs.declared.views.View.{View}
 use Rattle.shared_bag.specs.Shapes.{all_segments, turn_in, turn_place}
-use Rattle.shared_bag.specs.Counted.{BagEntry, LeavesItems, IsLegalBag, items_of, AddsKept}
-use Rattle.shared_bag.specs.Rule.{page_of, HasNoSegment, IsStill, IsLog, IsAt, CallerFits, FitsAs, KnowsPlan, Kept}
-use Rattle.shared_bag.specs.Steps.{reading, count_read, entry, SameCaller, Roams, Acts, ReadsCount, FoundAllEmpty, FindsSome, LooksAtCount}
+use Rattle.shared_bag.specs.Counted.{BagEntry, LeavesItems, items_of, AddsKept}
+use Rattle.shared_bag.specs.Rule.{page_of, HasNoSegment, IsStill, IsLog, IsAt, FitsAs, KnowsPlan, Kept}
+use Rattle.shared_bag.specs.Steps.{reading, count_read, entry, Acts, ReadsCount, FindsSome, LooksAtCount}
 use Rattle.shared_bag.proofs.Items.{no_items, items_none, leaves_empty}
 use Rattle.shared_bag.proofs.Seats.{GrowsBy, stays, adds, Touches, kept_step, caller_fits, caller_knows, caller_after, plan_after}
 

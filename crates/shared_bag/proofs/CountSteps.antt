@@ -1,37 +1,35 @@
 -- The steps on the count: up where an item is added, and down where one is taken, under the turn of its segment.
-use Rattle.std.proofs.Common.{◌≡◌, ◌≢◌, ℕ, zero, suc, ◌+◌, ◌-◌, ◌*◌, ◌%◌, ◌^◌, ◌<◌, ◌≤◌, List, [], ◌∷◌, ◌++◌, length, set, refl, ap, sym, ◌∙◌, subst, arith, inl, inr, slice_index, get_or, length-set, length-append, Option, Some}
+use Rattle.std.proofs.Common.{◌≡◌, ◌≢◌, ℕ, zero, suc, ◌+◌, ◌-◌, ◌*◌, ◌/◌, ◌%◌, ◌^◌, ◌<◌, ◌≤◌, List, [], ◌∷◌, ◌++◌, length, set, refl, ap, sym, ◌∙◌, subst, arith, inr, slice_index, length-set, length-append, Option}
 use Rattle.std.specs.Prelude.{IfSome}
 use Rattle.std.specs.List.{All}
-use Rattle.std.proofs.Math.Nat.{add-mod_right, mod-eq_of_lt}
+use Rattle.std.proofs.Math.Nat.{add-mod_right, mod-eq_of_lt, mod-le}
 use Rattle.std.proofs.Math.Seq.{get_or-append_seam}
 use Rattle.std.proofs.lemmas.Nat.{mul-le}
 use Rattle.std.proofs.lemmas.List.Elements.{All-append, All-nil}
 use mathlib.Core.Option.{some}
-use mathlib.Core.List.{IsPrefix}
 use lib.ListN.{get_elem?}
-use Rattle.atomic_table.specs.Table.{State, Me, Act, keeps as holding, Allows, Valid}
+use Rattle.atomic_table.specs.Table.{State, Me, keeps as holding, Allows}
 use Rattle.segment_store.specs.Contents.{Contents}
-use Rattle.pass_book.specs.Pages.{IsPageOf}
 use Rattle.pass_book.proofs.Prefixes.{prefix_more, prefix_trans}
 use Rattle.pass_book.proofs.PageSteps.{grown_own, enters}
 use Rattle.seq_objects.specs.declared.bags.BagCall.{BagCall}
 use Rattle.seq_objects.specs.declared.bags.BagCall.TheVariants.{Add, Remove}
 use Rattle.seq_objects.specs.declared.bags.BagReply.{BagReply}
-use Rattle.seq_objects.specs.declared.bags.BagReply.TheVariants.{Added, Took, Empty}
+use Rattle.seq_objects.specs.declared.bags.BagReply.TheVariants.{Added, Took}
 use Rattle.seq_objects.specs.BagSteps.{BagStep}
 use Rattle.seq_objects.specs.Meanings.{BagOpens}
 use Rattle.shared_bag.specs.declared.shapes.Shape.{Shape}
 use Rattle.shared_bag.specs.declared.views.Plan.{Plan}
 use Rattle.shared_bag.specs.declared.views.Role.TheVariants.{Caller}
-use Rattle.shared_bag.specs.declared.views.Stage.TheVariants.{Idle, Claimed, Counted}
+use Rattle.shared_bag.specs.declared.views.Stage.TheVariants.{Claimed, Counted}
 use Rattle.shared_bag.specs.declared.views.View.{View}
-use Rattle.shared_bag.specs.Shapes.{IsShape, all_segments, turn_in}
+use Rattle.shared_bag.specs.Shapes.{IsShape, all_segments, turn_in, IsOwn}
 use Rattle.shared_bag.specs.Counted.{BagEntry, LeavesItems, items_of, AddsKept}
-use Rattle.shared_bag.specs.Rule.{page_of, HasSegment, Holds, SegmentFits, IsStill, IsLog, IsAt, Kept}
+use Rattle.shared_bag.specs.Rule.{page_of, HasSegment, Holds, IsStill, IsAt, Kept}
 use Rattle.shared_bag.specs.Steps.{reading, count_read, entry, Acts, CountsUp, CountsDown, CountsLastDown}
 use Rattle.shared_bag.proofs.Places.{turn_in-set_count, count-set}
 use Rattle.shared_bag.proofs.Items.{put, put_here, put_else, one_more, one_fewer, count_more, items_short, leaves_added, leaves_taken}
-use Rattle.shared_bag.proofs.Seats.{adds, Touches, kept_step, caller_fits, caller_knows, caller_after, plan_after}
+use Rattle.shared_bag.proofs.Seats.{adds, kept_step, caller_fits, caller_knows, caller_after, plan_after}
 use Rattle.shared_bag.proofs.CountLooks.{log_more, below_callers, of_callers}
 
 -- the last of a list that all fits
@@ -66,11 +64,11 @@ module _ {K : Type 0} (keeps : ℕ → Type 0) (plan : Plan K) (s : State (Optio
 
   -- a step on the count keeps the rule, where the history leaves the items that the caller's segment has from then on
   count_step : (id : ℕ) (v : View K) (items' : List ℕ) (word : ℕ) (e : BagEntry) → get_elem? s.views id ≡ some v → v.role ≡ Caller → v.joined ≡ [] → e.caller ≡ v.number → AddsKept keeps e.call → Holds (turn_in s.words) kept.has v
-      → length items' ≤ plan.shape.room → All keeps items'
+      → length items' ≤ plan.shape.room → (kept.made ≤ v.segment / plan.shape.segments → items' ≡ []) → All keeps items'
       → LeavesItems (kept.history ++ e ∷ []) (items_of (put kept.has v.segment items') (all_segments plan.shape))
       → word ≡ length (items_of (put kept.has v.segment items') (all_segments plan.shape))
       → AfterCount id (record (reading v (count_read (slice_index s.words 0))) { mine = v.mine ++ e ∷ []; seen = kept.history ++ e ∷ []; stage = Counted; held = items'; found = [] }) word
-  count_step id v items' word e here role none own wants at short all leaves count =
+  count_step id v items' word e here role none own wants at short unused all leaves count =
       let c : ℕ = v.number in
       let k : ℕ = v.segment in
       let h : List BagEntry = kept.history in
@@ -100,6 +98,7 @@ module _ {K : Type 0} (keeps : ℕ → Type 0) (plan : Plan K) (s : State (Optio
         named = subst (λ t. t ≤ kept.made) (sym named') (let below = fits.below in omega arith);
         home = λ free. absurd (omega arith);
         short = subst (λ l. length l ≤ plan.shape.room) (sym here') short;
+        unused = λ past. here' ∙ unused past;
         kept = subst (All keeps) (sym here') all;
       })
       (plan_after plan w role knows)
@@ -123,9 +122,9 @@ module _ {K : Type 0} (keeps : ℕ → Type 0) (plan : Plan K) (s : State (Optio
         callers = of_callers keeps plan s kept id v (h ++ e ∷ []) here role (log_more keeps kept.made h e fits.below wants kept.log);
       }
 
-  counts_up : (id : ℕ) (v : View K) (item : ℕ) → get_elem? s.views id ≡ some v → v.role ≡ Caller → v.stage ≡ Claimed → v.joined ≡ [] → length v.held < v.shape.room → keeps item
+  counts_up : (id : ℕ) (v : View K) (item : ℕ) → get_elem? s.views id ≡ some v → v.role ≡ Caller → v.stage ≡ Claimed → v.joined ≡ [] → length v.held < v.shape.room → IsOwn v.shape v.number v.segment → keeps item
       → (w : View K) × AfterCount id w ((slice_index s.words 0 + 1) % 2 ^ 64) × CountsUp item v (slice_index s.words 0) w
-  counts_up id v item here role claimed none room wants =
+  counts_up id v item here role claimed none room own wants =
       let c : ℕ = v.number in
       let k : ℕ = v.segment in
       let n : ℕ = all_segments plan.shape in
@@ -144,9 +143,11 @@ module _ {K : Type 0} (keeps : ℕ → Type 0) (plan : Plan K) (s : State (Optio
       let sum : (slice_index s.words 0 + 1) % 2 ^ 64 ≡ slice_index s.words 0 + 1 = mod-eq_of_lt (let small = count_small in omega arith) in
       let room' : v.shape.room ≡ plan.shape.room = ap (λ x. x.room) knows.0 in
       let short : length items' ≤ plan.shape.room = omega (arith, length-append v.held (item ∷ [])) in
+      let own' : k / plan.shape.segments ≡ c % plan.shape.locales = subst (λ x. IsOwn x c k) knows.0 own in
+      let unused : kept.made ≤ k / plan.shape.segments → items' ≡ [] = λ past. absurd (let below = fits.below in let low : c % plan.shape.locales ≤ c = mod-le c plan.shape.locales in omega arith) in
       let all : All keeps items' = All-append keeps v.held (item ∷ []) (subst (All keeps) (sym at.1) fits'.kept) (one_item keeps item wants) in (
         record (reading v (count_read (slice_index s.words 0))) { mine = v.mine ++ e ∷ []; seen = h ++ e ∷ []; stage = Counted; held = items'; found = [] },
-        count_step id v items' ((slice_index s.words 0 + 1) % 2 ^ 64) e here role none refl wants at short all leaves (sum ∙ (ap (λ x. x + 1) kept.count ∙ sym long)),
+        count_step id v items' ((slice_index s.words 0 + 1) % 2 ^ 64) e here role none refl wants at short unused all leaves (sum ∙ (ap (λ x. x + 1) kept.count ∙ sym long)),
         record { acts = acts_by id v items' (Add item) Added here role wants leaves; counted = refl; named = refl; held = refl },
       )
 
@@ -178,9 +179,10 @@ module _ {K : Type 0} (keeps : K → ℕ → Type 0) (plan : Plan K) (s : State 
       let sum : (slice_index s.words 0 + (2 ^ 64 - 1)) % 2 ^ 64 ≡ M = ap (λ x. x % 2 ^ 64) whole ∙ (add-mod_right M (2 ^ 64) ∙ mod-eq_of_lt low) in
       let all' : All (keeps plan.keeper) (others ++ item ∷ []) = subst (All (keeps plan.keeper)) had fits'.kept in
       let had_length : length (kept.has k) ≡ length others + 1 = ap length had ∙ omega (arith, length-append others (item ∷ [])) in
-      let short : length others ≤ plan.shape.room = (let most = fits'.short in omega arith) in (
+      let short : length others ≤ plan.shape.room = (let most = fits'.short in omega arith) in
+      let unused : kept.made ≤ k / plan.shape.segments → others ≡ [] = λ past. absurd (let empty = ap length (fits'.unused past) in omega arith) in (
         record (reading v (count_read (slice_index s.words 0))) { mine = v.mine ++ e ∷ []; seen = h ++ e ∷ []; stage = Counted; held = others; found = [] },
-        count_step (keeps plan.keeper) plan s kept id v others ((slice_index s.words 0 + (2 ^ 64 - 1)) % 2 ^ 64) e here role none refl tt at short (but_last (keeps plan.keeper) others item all') leaves sum,
+        count_step (keeps plan.keeper) plan s kept id v others ((slice_index s.words 0 + (2 ^ 64 - 1)) % 2 ^ 64) e here role none refl tt at short unused (but_last (keeps plan.keeper) others item all') leaves sum,
         record {
           acts = acts_by (keeps plan.keeper) plan s kept id v others Remove (Took item) here role tt leaves;
           counted = refl;
@@ -192,9 +194,9 @@ module _ {K : Type 0} (keeps : K → ℕ → Type 0) (plan : Plan K) (s : State 
 
 -- the count goes up under a turn, where there is room for a kept item
 pub counts_item_up : {K : Type 0} (keeps : ℕ → Type 0) (plan : Plan K) (slots id : ℕ) (me : Me (Option Contents) (View K)) (item : ℕ) → me.0.role ≡ Caller → me.0.stage ≡ Claimed → me.0.joined ≡ []
-    → length me.0.held < me.0.shape.room → keeps item → Allows (Kept keeps plan) slots id me 0 (λ x. (x + 1) % 2 ^ 64) (λ found m'. CountsUp item me.0 found m'.0 × (m'.1 ≡ me.1))
-counts_item_up keeps plan slots id me item role claimed none room wants s kept homes here small =
-    let all = counts_up keeps plan s kept id me.0 item here role claimed none room wants in
+    → length me.0.held < me.0.shape.room → IsOwn me.0.shape me.0.number me.0.segment → keeps item → Allows (Kept keeps plan) slots id me 0 (λ x. (x + 1) % 2 ^ 64) (λ found m'. CountsUp item me.0 found m'.0 × (m'.1 ≡ me.1))
+counts_item_up keeps plan slots id me item role claimed none room own wants s kept homes here small =
+    let all = counts_up keeps plan s kept id me.0 item here role claimed none room own wants in
     (all.0, holding, tt, all.1, (all.2, refl))
 
 -- the count goes down under a turn, for the last of the segment's items

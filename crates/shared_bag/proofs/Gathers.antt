@@ -1,15 +1,11 @@
 -- One seat takes in the passes of a bag, one after another.
-use Rattle.std.proofs.Common.{◌≡◌, ℕ, zero, suc, ◌+◌, ◌<◌, ◌⊎◌, List, [], ◌∷◌, ◌++◌, length, get_or, refl, ap, sym, ◌∙◌, subst, arith, inl, inr, ⊎_elim, append_assoc, length-append, Some, slice_get}
+use Rattle.std.proofs.Common.{◌≡◌, zero, suc, List, [], ◌∷◌, ◌++◌, length, get_or, refl, ap, sym, ◌∙◌, subst, arith, inl, inr, ⊎_elim, append_assoc, length-append}
 use Rattle.std.specs.List.{All}
-use Rattle.std.proofs.lemmas.List.{append-nil}
 use Rattle.std.proofs.Math.Seq.{get_or-append_seam}
 use Rattle.std.proofs.lemmas.List.Elements.{All-nil}
 use Rattle.shared_bag.specs.declared.passes.BagPass.{BagPass}
-use Rattle.shared_bag.specs.declared.views.Joined.{Joined}
 use Rattle.shared_bag.specs.declared.views.View.{View}
-use Rattle.shared_bag.specs.Rule.{page_of, page_joined}
 use Rattle.shared_bag.specs.Steps.{joining}
-use Rattle.shared_bag.specs.Passes.{caller_of, page}
 use Rattle.shared_bag.specs.Closings.{Gathered}
 use Rattle.shared_bag.proofs.PassJoins.{all_cons}
 

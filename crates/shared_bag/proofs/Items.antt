@@ -1,10 +1,10 @@
 -- The items of all segments, as one of them changes, and what a bag's history leaves then.
-use Rattle.std.proofs.Common.{◌≡◌, ◌≢◌, ℕ, zero, suc, ◌+◌, ◌*◌, ◌<◌, ◌≤◌, ◌⊎◌, Bool, true, false, cond, List, [], ◌∷◌, ◌++◌, length, refl, ap, ap₂, sym, ◌∙◌, subst, arith, length-append, append_assoc, eq-eqb, ne_eqb, nat_eq}
+use Rattle.std.proofs.Common.{◌≡◌, ◌≢◌, ℕ, zero, suc, ◌+◌, ◌*◌, ◌<◌, ◌≤◌, cond, List, [], ◌∷◌, ◌++◌, length, refl, ap, ap₂, sym, ◌∙◌, subst, arith, length-append, append_assoc, eq-eqb, ne_eqb, nat_eq}
 use Rattle.std.specs.Prelude.{IsPermutation}
 use Rattle.std.proofs.lemmas.List.Sorted.{IsPermutation-sym, IsPermutation-to_front, IsPermutation-append, IsPermutation-refl, length_permutation}
 use mathlib.Core.Logic.{dite}
 use native.Mathlib.Decide.{ℕ_discrete}
-use Rattle.pass_book.specs.Histories.{Leads, Leaves}
+use Rattle.pass_book.specs.Histories.{Leads}
 use Rattle.pass_book.proofs.Legal.{leaves-snoc}
 use Rattle.seq_objects.specs.declared.bags.BagCall.{BagCall}
 use Rattle.seq_objects.specs.declared.bags.BagReply.{BagReply}

@@ -1,5 +1,5 @@
 -- The state in which a bag is closed: the one history of all its callers, and the items in the segments.
-use Rattle.std.proofs.Common.{◌≡◌, ◌≢◌, ℕ, zero, suc, ◌+◌, ◌-◌, ◌*◌, ◌<◌, ◌≤◌, ◌⊎◌, List, [], ◌∷◌, ◌++◌, length, map, get_or, refl, ap, sym, ◌∙◌, subst, arith, inl, inr, ⊎_elim, Option, Some}
+use Rattle.std.proofs.Common.{◌≡◌, ℕ, zero, suc, ◌-◌, ◌<◌, ◌≤◌, List, [], ◌∷◌, length, map, get_or, ap, sym, ◌∙◌, subst, arith, ⊎_elim, Option, Some}
 use Rattle.std.specs.Prelude.{IsPermutation, slice_get}
 use Rattle.std.specs.List.{All, Contains}
 use mathlib.Core.Option.{some}
@@ -20,7 +20,7 @@ use Rattle.shared_bag.specs.declared.views.View.{View}
 use Rattle.shared_bag.specs.Shapes.{all_segments, turn_in}
 use Rattle.shared_bag.specs.Counted.{BagEntry, LeavesItems, CountsAtMost, items_of}
 use Rattle.shared_bag.specs.Rule.{page_of, page_joined, IsAt, HasNoSegment, JoinedFits, Kept}
-use Rattle.shared_bag.specs.Passes.{caller_of, callers_of, page}
+use Rattle.shared_bag.specs.Passes.{caller_of, page}
 use Rattle.shared_bag.specs.Closings.{AreOfAllCallers, ClosesWith, Gathered, stored}
 use Rattle.shared_bag.proofs.Items.{items_same, one_count}
 use Rattle.shared_bag.proofs.Seats.{caller_fits, caller_knows}

@@ -2,11 +2,12 @@ pub mod Places
 pub mod Items
 pub mod Seats
 pub mod CountLooks
+pub mod Alone
 pub mod TurnSteps
 pub mod CountSteps
 pub mod Roamings
-pub mod VisitSteps
 pub mod Orders
+pub mod VisitSteps
 pub mod NoteSteps
 pub mod Openings
 pub mod NewPasses

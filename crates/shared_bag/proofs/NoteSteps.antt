@@ -1,20 +1,20 @@
 -- A note is made, taken in, and learnt.
-use Rattle.std.proofs.Common.{◌≡◌, ◌≢◌, ℕ, zero, suc, ◌+◌, ◌<◌, ◌≤◌, ◌⊎◌, List, [], ◌∷◌, ◌++◌, length, set, refl, ap, sym, ◌∙◌, subst, arith, inl, inr, ⊎_elim, slice_index, length-set, Option}
+use Rattle.std.proofs.Common.{◌≡◌, ℕ, zero, suc, ◌⊎◌, List, [], ◌∷◌, ◌++◌, length, set, refl, ap, sym, ◌∙◌, subst, inl, inr, ⊎_elim, slice_index, Option}
 use mathlib.Core.Option.{some, some-ne-none, some-injective}
 use mathlib.Core.List.{IsPrefix}
 use lib.ListN.{get_elem?}
-use Rattle.atomic_table.specs.Table.{State, Me, Act, keeps as holding, Allows, Splits, Joins}
+use Rattle.atomic_table.specs.Table.{State, Me, keeps as holding, Allows, Splits, Joins}
 use Rattle.atomic_table.proofs.Lists.{at_set, set_else, set_again}
 use Rattle.segment_store.specs.Contents.{Contents}
-use Rattle.pass_book.specs.Pages.{IsPageOf, longer}
-use Rattle.pass_book.proofs.PageSteps.{told, page_at}
+use Rattle.pass_book.specs.Pages.{longer}
+use Rattle.pass_book.proofs.PageSteps.{told}
 use Rattle.shared_bag.specs.declared.views.Plan.{Plan}
-use Rattle.shared_bag.specs.declared.views.Role.TheVariants.{Opener, Caller, Note, Spent}
+use Rattle.shared_bag.specs.declared.views.Role.TheVariants.{Caller, Note}
 use Rattle.shared_bag.specs.declared.views.Stage.TheVariants.{Idle}
 use Rattle.shared_bag.specs.declared.views.View.{View}
 use Rattle.shared_bag.specs.Shapes.{all_segments, turn_in}
 use Rattle.shared_bag.specs.Counted.{BagEntry}
-use Rattle.shared_bag.specs.Rule.{page_of, IsAt, HasNoSegment, CallerFits, FitsAs, KnowsPlan, Kept}
+use Rattle.shared_bag.specs.Rule.{page_of, IsAt, HasNoSegment, FitsAs, KnowsPlan, Kept}
 use Rattle.shared_bag.specs.Steps.{reading, count_read, LearnsNote, noted, telling, spent}
 use Rattle.shared_bag.proofs.Seats.{stays, caller_fits, caller_knows, caller_after, plan_after}
 use Rattle.shared_bag.proofs.CountLooks.{load_step}

@@ -1,25 +1,22 @@
 -- A bag opens with an empty history and empty segments, and its opener makes one pass for each caller.
-use Rattle.std.proofs.Common.{◌≡◌, ◌≢◌, ℕ, zero, suc, ◌+◌, ◌*◌, ◌<◌, ◌≤◌, ◌⊎◌, Bool, List, [], ◌∷◌, ◌++◌, length, map, set, refl, ap, sym, ◌∙◌, subst, arith, inl, inr, ⊎_elim, slice_index, get_or, cond, nat_eq, eq-eqb, ne_eqb, Option, Some, length-set}
+use Rattle.std.proofs.Common.{◌≡◌, ◌≢◌, ℕ, zero, suc, ◌+◌, ◌<◌, ◌≤◌, List, [], ◌∷◌, length, map, set, refl, ap, sym, ◌∙◌, subst, arith, ⊎_elim, get_or, cond, ne_eqb, Option, Some, length-set}
 use Rattle.std.specs.Prelude.{replicate}
-use Rattle.std.specs.List.{All}
 use Rattle.std.proofs.lemmas.List.Elements.{All-nil}
 use Rattle.std.proofs.lemmas.List.{length-replicate, length-map}
 use mathlib.Core.Option.{some, some-ne-none, some-injective}
 use lib.ListN.{get_elem?}
-use Rattle.atomic_table.specs.Table.{State, Splits, opening}
+use Rattle.atomic_table.specs.Table.{Splits, opening}
 use Rattle.atomic_table.proofs.Lists.{at_set}
 use Rattle.segment_store.specs.Contents.{Contents}
 use Rattle.pass_book.specs.Histories.{IsOfCallers, entries_of}
-use Rattle.pass_book.specs.Pages.{IsPageOf}
 use Rattle.pass_book.proofs.Sublists.{of_callers-le}
 use Rattle.shared_bag.specs.declared.views.Plan.{Plan}
 use Rattle.shared_bag.specs.declared.views.Role.{Role}
 use Rattle.shared_bag.specs.declared.views.Role.TheVariants.{Opener, Caller, Note, Spent}
-use Rattle.shared_bag.specs.declared.views.Stage.TheVariants.{Idle}
 use Rattle.shared_bag.specs.declared.views.View.{View}
 use Rattle.shared_bag.specs.Shapes.{IsShape, all_segments, turn_in, turn_place}
 use Rattle.shared_bag.specs.Counted.{BagEntry, items_of}
-use Rattle.shared_bag.specs.Rule.{Homes, page_of, HasNoSegment, IsHome, IsStill, IsLog, JoinedFits, CallerFits, FitsAs, KnowsPlan, Kept}
+use Rattle.shared_bag.specs.Rule.{HasNoSegment, IsStill, FitsAs, KnowsPlan, Kept}
 use Rattle.shared_bag.specs.Steps.{opener, opener_next, newcomer}
 use Rattle.shared_bag.proofs.Items.{put, put_here, put_else, items_none, no_items}
 use Rattle.shared_bag.proofs.NoteSteps.{at_end}
@@ -71,6 +68,7 @@ module _ {K : Type 0} (keeps : ℕ → Type 0) (plan : Plan K) where
           named = (let z = all_zero (n + 1) (turn_place k) in omega arith);
           home = λ free. (0, all_home n k within);
           short = omega arith;
+          unused = λ past. refl;
           kept = All-nil keeps;
         };
         plans = λ k v at. subst (λ x. KnowsPlan plan x x.role) (first_view k v at).1 (refl, refl);
@@ -152,6 +150,7 @@ module _ {K : Type 0} (keeps : ℕ → Type 0) (plan : Plan K) where
           named = (let named = (kept.segments k within).named in omega arith);
           home = (kept.segments k within).home;
           short = (kept.segments k within).short;
+          unused = λ past. (kept.segments k within).unused (omega arith);
           kept = (kept.segments k within).kept;
         };
         plans = λ k u at.

@@ -1,14 +1,10 @@
 -- Each segment has its turn in the order in which a caller tries them.
-use Rattle.std.proofs.Common.{◌≡◌, ◌≢◌, ℕ, zero, suc, ◌+◌, ◌-◌, ◌*◌, ◌/◌, ◌%◌, ◌<◌, ◌≤◌, ◌⊎◌, refl, ap, ap₂, sym, ◌∙◌, subst, arith, ⊎_elim, div-add-mod', List, Option, None}
-use Rattle.std.specs.Prelude.{Contains, IfSome}
-use Rattle.std.proofs.Math.Nat.{add-mod_right, mod-eq_of_lt, mod-lt, mul-le-mul_right, div-lt_iff_lt-mul}
+use Rattle.std.proofs.Common.{◌≡◌, ◌≢◌, ℕ, ◌+◌, ◌-◌, ◌*◌, ◌/◌, ◌%◌, ◌<◌, ◌≤◌, ap, ap₂, sym, ◌∙◌, subst, arith, ⊎_elim, div-add-mod'}
+use Rattle.std.proofs.Math.Nat.{add-mod_right, mod-eq_of_lt, mod-lt, mul-le-mul_right, div-lt_iff_lt-mul, div-eq_of_lt}
 use Rattle.std.proofs.lemmas.Nat.{div-mul-add, mod-mul-add, mul-le}
 use Rattle.std.proofs.lemmas.Bool.{cases_lt}
 use Rattle.shared_bag.specs.declared.shapes.Shape.{Shape}
-use Rattle.shared_bag.specs.declared.views.View.{View}
-use Rattle.shared_bag.specs.Shapes.{IsShape, all_segments, tried, tried_locale, tried_number}
-use Rattle.shared_bag.specs.Visits.{FindsNothing, Visits, Sweeps}
-use Rattle.shared_bag.proofs.VisitSteps.{SweepsSoFar}
+use Rattle.shared_bag.specs.Shapes.{IsShape, IsOwn, all_segments, tried, tried_locale, tried_number}
 
 -- so many steps round from one number lead to another
 round : (own l n : ℕ) → own < n → l < n → (own + (l + n - own) % n) % n ≡ l
@@ -51,17 +47,32 @@ tried_all shape caller k is within =
     let at_number : tried_number shape caller j ≡ number = ap (λ x. (first + x) % S) low ∙ round first number S (mod-lt (caller / L) some_segment) number_less in
     (j, less, ap₂ (λ x y. x * S + y) at_locale at_number ∙ div-add-mod' k S)
 
--- a removal has visited all segments
-pub sweeps_all : {K : Type 0} (keeps : K → ℕ → Type 0) (n : ℕ) (v w : View K) → IsShape v.shape → n ≡ all_segments v.shape → n ≢ 0 → SweepsSoFar v w n → Sweeps keeps v w None
-sweeps_all keeps n v w is all some so_far = (
-  so_far.words,
-  subst (λ x. Visits (FindsNothing v.shape v.number) (tried v.shape v.number) x so_far.words) all so_far.visits,
-  so_far.roams some,
-  λ one k within.
-      let within' : k < all_segments v.shape = subst (λ x. k < all_segments x) so_far.passes.same.shape within in
-      let place = tried_all v.shape v.number k is within' in
-      subst (λ x. Contains w.found (record { segment = x; length = 0 })) place.2 (so_far.alone one place.0 (subst (λ x. place.0 < x) (sym all) place.1)),
-)
+-- the same caller of the same shape has the same locale
+pub own_locale : (shape shape' : Shape) (caller caller' segment : ℕ) → shape ≡ shape' → caller ≡ caller' → IsOwn shape' caller' segment → IsOwn shape caller segment
+own_locale shape shape' caller caller' segment is number own = subst (λ c. IsOwn shape c segment) (sym number) (subst (λ x. IsOwn x caller' segment) (sym is) own)
+
+-- a caller tries the segments of its own locale first
+pub tried_own : (shape : Shape) (caller place : ℕ) → IsShape shape → place < shape.segments → IsOwn shape caller (tried shape caller place)
+tried_own shape caller place is less =
+    let some_locale : 0 < shape.locales = (let least = is.locales.0 in omega arith) in
+    let own : ℕ = caller % shape.locales in
+    let none : place / shape.segments ≡ 0 = div-eq_of_lt less in
+    let at_locale : tried_locale shape caller place ≡ own = ap (λ x. (own + x) % shape.locales) none ∙ (ap (λ x. x % shape.locales) (let whole : own + 0 ≡ own = omega arith in whole) ∙ mod-eq_of_lt (mod-lt caller some_locale)) in
+    div-mul-add (tried_locale shape caller place) shape.segments (tried_number shape caller place) (mod-lt _ (omega arith)) ∙ at_locale
+
+-- and each of them
+pub own_tried : (shape : Shape) (caller k : ℕ) → IsShape shape → IsOwn shape caller k → (j : ℕ) × (j < shape.segments) × (tried shape caller j ≡ k)
+own_tried shape caller k is own =
+    let S : ℕ = shape.segments in
+    let some_segment : 0 < S = (let least = is.segments.0 in omega arith) in
+    let first : ℕ = caller / shape.locales % S in
+    let number : ℕ = k % S in
+    let j : ℕ = (number + S - first) % S in
+    let less : j < S = mod-lt (number + S - first) some_segment in
+    let at_locale : tried_locale shape caller j ≡ k / S = (sym (div-mul-add (tried_locale shape caller j) S (tried_number shape caller j) (mod-lt _ some_segment)) ∙ tried_own shape caller j is less) ∙ sym own in
+    let low : j % S ≡ j = mod-eq_of_lt less in
+    let at_number : tried_number shape caller j ≡ number = ap (λ x. (first + x) % S) low ∙ round first number S (mod-lt (caller / shape.locales) some_segment) (mod-lt k some_segment) in
+    (j, less, ap₂ (λ x y. x * S + y) at_locale at_number ∙ div-add-mod' k S)
 
 pub some_segments : (shape : Shape) → IsShape shape → all_segments shape ≢ 0
 some_segments shape is none = let least : 1 * 1 ≤ shape.locales * shape.segments = mul-le 1 1 shape.locales shape.segments is.locales.0 is.segments.0 in omega arith

@@ -1,9 +1,9 @@
 -- One caller's pass takes in another's, when the deque is closed.
-use Rattle.std.proofs.Common.{◌≡◌, ◌≢◌, ℕ, zero, suc, ◌+◌, ◌<◌, ◌≤◌, ◌⊎◌, List, [], ◌∷◌, ◌++◌, length, set, get_or, refl, ap, sym, ◌∙◌, subst, arith, inl, inr, ⊎_elim}
+use Rattle.std.proofs.Common.{◌≡◌, ◌≢◌, ℕ, zero, suc, List, ◌∷◌, set, get_or, refl, ap, sym, ◌∙◌, subst, arith, ⊎_elim}
 use Rattle.std.specs.List.{All}
 use mathlib.Core.Option.{some}
 use lib.ListN.{get_elem?}
-use Rattle.atomic_table.specs.Table.{State, Joins}
+use Rattle.atomic_table.specs.Table.{Joins}
 use Rattle.atomic_table.proofs.Lists.{at_set, set_else}
 use Rattle.shared_bag.specs.declared.views.Plan.{Plan}
 use Rattle.shared_bag.specs.declared.views.Role.{Role}
@@ -13,7 +13,7 @@ use Rattle.shared_bag.specs.declared.views.Joined.{Joined}
 use Rattle.shared_bag.specs.declared.views.View.{View}
 use Rattle.shared_bag.specs.Shapes.{all_segments, turn_in}
 use Rattle.shared_bag.specs.Counted.{BagEntry}
-use Rattle.shared_bag.specs.Rule.{page_of, IsAt, HasNoSegment, JoinedFits, CallerFits, FitsAs, KnowsPlan, Kept}
+use Rattle.shared_bag.specs.Rule.{IsAt, HasNoSegment, JoinedFits, FitsAs, KnowsPlan, Kept}
 use Rattle.shared_bag.specs.Steps.{joining, spent}
 use Rattle.shared_bag.proofs.Items.{put, put_here, put_else}
 use Rattle.shared_bag.proofs.Seats.{caller_fits, caller_knows, plan_after}

@@ -1,6 +1,6 @@
 -- Steps of a caller one after another: what they read, and what they enter.
-use Rattle.std.proofs.Common.{◌≡◌, ◌≢◌, ◌==◌, ℕ, zero, suc, ◌+◌, ◌<◌, ◌≤◌, ◌⊎◌, Bool, true, false, List, [], ◌∷◌, ◌++◌, length, refl, ap, ap₂, sym, ◌∙◌, subst, arith, inl, inr, ⊎_elim, append_assoc, eq-eqb, ne_eqb, Option, Some, None}
-use Rattle.std.specs.Prelude.{MatchBool, IfSome, Contains}
+use Rattle.std.proofs.Common.{◌≡◌, ◌≢◌, ℕ, ◌<◌, Bool, List, [], ◌∷◌, ◌++◌, refl, ap, sym, ◌∙◌, subst, append_assoc, eq-eqb, ne_eqb, Option}
+use Rattle.std.specs.Prelude.{MatchBool}
 use Rattle.std.proofs.lemmas.List.{append-nil}
 use mathlib.Core.List.{IsPrefix}
 use mathlib.Core.Logic.{dite}
@@ -12,14 +12,14 @@ use Rattle.pass_book.specs.Pages.{IsPage}
 use Rattle.pass_book.proofs.Prefixes.{prefix_self, prefix_trans}
 use Rattle.pass_book.proofs.Sublists.{rest_of_others, entries_of-append}
 use Rattle.seq_objects.specs.declared.bags.BagCall.{BagCall}
-use Rattle.seq_objects.specs.declared.bags.BagCall.TheVariants.{Add, Remove}
+use Rattle.seq_objects.specs.declared.bags.BagCall.TheVariants.{Remove}
 use Rattle.seq_objects.specs.declared.bags.BagReply.{BagReply}
-use Rattle.seq_objects.specs.declared.bags.BagReply.TheVariants.{Added, Took, Empty}
+use Rattle.seq_objects.specs.declared.bags.BagReply.TheVariants.{Empty}
 use Rattle.shared_bag.specs.declared.views.Stage.TheVariants.{Idle}
 use Rattle.shared_bag.specs.declared.views.View.{View}
 use Rattle.shared_bag.specs.Counted.{BagEntry, EntersBag}
 use Rattle.shared_bag.specs.Rule.{page_of}
-use Rattle.shared_bag.specs.Steps.{Looks, count_read, turn_read, entry, Meets, SameCaller, Passes, Roams, Acts, FindsSome, LooksAtCount, GetsTurn, FindsHeld, Claims, LeavesCounted}
+use Rattle.shared_bag.specs.Steps.{Looks, count_read, entry, Meets, SameCaller, Passes, Roams, Acts, FindsSome, LooksAtCount, GetsTurn, FindsHeld, Claims, LeavesCounted}
 
 meets_from : (a b c : List BagEntry) (words : Looks) → IsPrefix a b → Meets b c words → Meets a c words
 meets_from a b c [] p meets = prefix_trans a b c p meets

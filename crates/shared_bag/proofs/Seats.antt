@@ -1,5 +1,5 @@
 -- What a caller's step leaves as it was: the seats of the others, and the segments that it does not touch.
-use Rattle.std.proofs.Common.{◌≡◌, ◌≢◌, ℕ, zero, suc, ◌+◌, ◌*◌, ◌<◌, ◌≤◌, ◌⊎◌, List, [], ◌∷◌, ◌++◌, length, set, refl, ap, sym, ◌∙◌, subst, arith, inl, inr, ⊎_elim, slice_index, get_or, Some, Option}
+use Rattle.std.proofs.Common.{◌≡◌, ◌≢◌, ℕ, ◌+◌, ◌<◌, ◌≤◌, ◌⊎◌, List, [], ◌∷◌, ◌++◌, length, set, ap, sym, ◌∙◌, subst, arith, ⊎_elim, slice_index, get_or, Some, Option}
 use Rattle.std.specs.List.{All}
 use Rattle.std.proofs.lemmas.List.Elements.{All-nil}
 use mathlib.Core.Option.{some}
@@ -10,9 +10,10 @@ use lib.ListN.{get_elem?}
 use Rattle.atomic_table.specs.Table.{State}
 use Rattle.atomic_table.proofs.Lists.{at_set}
 use Rattle.segment_store.specs.Contents.{Contents}
-use Rattle.pass_book.specs.Pages.{Page, IsPageOf}
+use Rattle.pass_book.specs.Pages.{IsPageOf}
 use Rattle.pass_book.proofs.Prefixes.{prefix_self, prefix_more, prefix_trans}
 use Rattle.pass_book.proofs.PageSteps.{grown_other}
+use Rattle.shared_bag.specs.declared.shapes.Shape.{Shape}
 use Rattle.shared_bag.specs.declared.views.Plan.{Plan}
 use Rattle.shared_bag.specs.declared.views.Role.{Role}
 use Rattle.shared_bag.specs.declared.views.Role.TheVariants.{Opener, Caller, Note, Spent}
@@ -105,18 +106,19 @@ module _ (c segment : ℕ) (turn turn' : ℕ → ℕ) (homes homes' : Homes) (ha
     fits_kept made seat h h' id k v Note below grows mine away fits = prefix_trans v.seen h h' fits grows.begins
     fits_kept made seat h h' id k v Spent below grows mine away fits = tt
 
-  segments_kept : (keeps : ℕ → Type 0) (room made k : ℕ) → (k ≡ segment → SegmentFits turn' homes' has' keeps room made segment) → SegmentFits turn homes has keeps room made k
-      → SegmentFits turn' homes' has' keeps room made k
-  segments_kept keeps room made k own fits =
+  segments_kept : (keeps : ℕ → Type 0) (shape : Shape) (made k : ℕ) → (k ≡ segment → SegmentFits turn' homes' has' keeps shape made segment) → SegmentFits turn homes has keeps shape made k
+      → SegmentFits turn' homes' has' keeps shape made k
+  segments_kept keeps shape made k own fits =
       dite (ℕ_discrete k segment)
-      (λ here. subst (λ j. SegmentFits turn' homes' has' keeps room made j) (sym here) (own here))
+      (λ here. subst (λ j. SegmentFits turn' homes' has' keeps shape made j) (sym here) (own here))
       (λ away.
       let same : has' k ≡ has k = touches.same_items k away in record {
         named = subst (λ t. t ≤ made) (sym (touches.same_turn k away)) fits.named;
         home = λ free.
             let at = fits.home (sym (touches.same_turn k away) ∙ free) in
             subst (λ items. IsHome homes' k items) (sym same) (at.0, touches.same_home k away ∙ at.1);
-        short = subst (λ items. length items ≤ room) (sym same) fits.short;
+        short = subst (λ items. length items ≤ shape.room) (sym same) fits.short;
+        unused = λ past. same ∙ fits.unused past;
         kept = subst (All keeps) (sym same) fits.kept;
       })
 
@@ -132,7 +134,7 @@ module _ {K : Type 0} (keeps : ℕ → Type 0) (plan : Plan K) (s : State (Optio
       → IsLog keeps kept.made h'
       → LeavesItems h' (items_of has' (all_segments plan.shape))
       → slice_index words' 0 ≡ length (items_of has' (all_segments plan.shape))
-      → (segment < all_segments plan.shape → SegmentFits (turn_in words') homes' has' keeps plan.shape.room kept.made segment)
+      → (segment < all_segments plan.shape → SegmentFits (turn_in words') homes' has' keeps plan.shape kept.made segment)
       → KnowsPlan plan w w.role
       → FitsAs (turn_in words') has' kept.made kept.seat h' id w w.role
       → Kept keeps plan record { words = words'; homes = homes'; views = set s.views id w }
@@ -149,7 +151,7 @@ module _ {K : Type 0} (keeps : ℕ → Type 0) (plan : Plan K) (s : State (Optio
     leaves = leaves;
     count = count;
     segments = λ k within.
-        segments_kept c segment (turn_in s.words) (turn_in words') s.homes homes' kept.has has' touches keeps plan.shape.room kept.made k
+        segments_kept c segment (turn_in s.words) (turn_in words') s.homes homes' kept.has has' touches keeps plan.shape kept.made k
         (λ here. own (subst (λ j. j < all_segments plan.shape) here within)) (kept.segments k within);
     plans = λ k u at. ⊎_elim (λ t. subst (λ x. KnowsPlan plan x x.role) t.1 plans) (λ t. kept.plans k u t.1) (at_set s.views id k w u at);
     seats = λ k u at.

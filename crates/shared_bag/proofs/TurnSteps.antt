@@ -1,5 +1,5 @@
 -- The steps on a segment's turn: the claim, which takes the segment out, and the leave, which gives it back.
-use Rattle.std.proofs.Common.{◌≡◌, ◌≢◌, ℕ, zero, suc, ◌+◌, ◌-◌, ◌*◌, ◌<◌, ◌≤◌, ◌==◌, Bool, true, false, List, [], ◌∷◌, ◌++◌, length, set, refl, ap, sym, ◌∙◌, subst, arith, inl, inr, slice_index, get_or, length-set, Option, Some}
+use Rattle.std.proofs.Common.{◌≡◌, ◌≢◌, ℕ, zero, suc, ◌+◌, ◌-◌, ◌<◌, ◌≤◌, ◌==◌, Bool, true, false, List, [], ◌∷◌, length, set, refl, ap, sym, ◌∙◌, subst, arith, inl, inr, length-set, Option, Some}
 use Rattle.std.specs.Prelude.{MatchBool}
 use Rattle.std.specs.List.{All}
 use Rattle.std.proofs.lemmas.Bool.Decides.{nat_tests}
@@ -19,18 +19,18 @@ use Rattle.seq_objects.specs.BagSteps.{BagStep}
 use Rattle.seq_objects.specs.Meanings.{BagOpens}
 use Rattle.shared_bag.specs.declared.views.Plan.{Plan}
 use Rattle.shared_bag.specs.declared.views.Role.TheVariants.{Caller}
-use Rattle.shared_bag.specs.declared.views.Stage.{Stage}
 use Rattle.shared_bag.specs.declared.views.Stage.TheVariants.{Idle, Claimed, Counted}
 use Rattle.shared_bag.specs.declared.views.Found.{Found}
 use Rattle.shared_bag.specs.declared.views.View.{View}
 use Rattle.shared_bag.specs.Shapes.{all_segments, segment_at, turn_in, turn_place}
 use Rattle.shared_bag.specs.Counted.{BagEntry, items_of}
-use Rattle.shared_bag.specs.Rule.{Homes, page_of, HasNoSegment, HasSegment, Holds, IsHome, SegmentFits, IsStill, IsAt, FitsAs, Kept}
-use Rattle.shared_bag.specs.Steps.{reading, turn_read, length_read, NamesAnother, Roams, GetsTurn, FindsHeld, Claims, IsBack, LeavesAsFound, LeavesCounted}
+use Rattle.shared_bag.specs.Rule.{Homes, page_of, HasNoSegment, HasSegment, Holds, IsHome, IsStill, IsAt, Kept}
+use Rattle.shared_bag.specs.Steps.{reading, turn_read, length_read, GetsTurn, FindsHeld, Claims, IsBack, LeavesAsFound, LeavesCounted}
 use Rattle.shared_bag.proofs.Places.{count-set_turn, turn_in-set_turn, turn_in-set_other}
 use Rattle.shared_bag.proofs.Items.{segment_short}
-use Rattle.shared_bag.proofs.Seats.{GrowsBy, stays, Touches, kept_step, caller_fits, caller_knows, caller_after, plan_after}
+use Rattle.shared_bag.proofs.Seats.{stays, kept_step, caller_fits, caller_knows, caller_after, plan_after}
 use Rattle.shared_bag.proofs.CountLooks.{load_step, below_callers, of_callers, made_alone}
+use Rattle.shared_bag.proofs.Alone.{alone_full, alone_whole_room}
 
 all_cons : {A : Type 0} (P : A → Type 0) (a : A) (l : List A) → P a → All P l → All P (a ∷ l)
 all_cons P a l p all zero d below = p
@@ -87,6 +87,7 @@ module _ {K : Type 0} (keeps : ℕ → Type 0) (plan : Plan K) (s : State (Optio
               named = subst (λ t. t ≤ kept.made) (sym mine) (let below = fits.below in omega arith);
               home = λ zero'. absurd (omega arith);
               short = fits'.short;
+              unused = fits'.unused;
               kept = fits'.kept;
             })
             (plan_after plan w role knows)
@@ -107,6 +108,7 @@ module _ {K : Type 0} (keeps : ℕ → Type 0) (plan : Plan K) (s : State (Optio
           out = refl;
           short = subst (λ x. length (kept.has k) ≤ x.room) (sym knows.0) fits'.short;
           known = refl;
+          full = λ one own counts. alone_full keeps plan s kept id v k here role within one own counts;
         },
       )
   claims_by id v k here role idle none within false isnt =
@@ -181,7 +183,7 @@ module _ {K : Type 0} (keeps : ℕ → Type 0) (plan : Plan K) (s : State (Optio
         after = inl free;
       }
       (stays c h) kept.log kept.leaves (count-set_turn s.words 0 k ∙ kept.count)
-      (λ less. record { named = subst (λ t. t ≤ kept.made) (sym free) (omega arith); home = λ zero'. back; short = fits'.short; kept = fits'.kept })
+      (λ less. record { named = subst (λ t. t ≤ kept.made) (sym free) (omega arith); home = λ zero'. back; short = fits'.short; unused = fits'.unused; kept = fits'.kept })
       (plan_after plan w role' (shape ∙ knows.0, keeper ∙ knows.1))
       (caller_after (turn_in words') kept.has kept.made kept.seat h id w role' none (subst (λ x. x < kept.made) (sym number) fits.below) (ap kept.seat number ∙ fits.seated)
       (subst (λ x. IsPageOf x h (page_of w)) (sym number) page) (subst (λ l. IsPrefix l h) (sym told) fits.told)
@@ -200,10 +202,10 @@ module _ {K : Type 0} (keeps : ℕ → Type 0) (plan : Plan K) (s : State (Optio
       let within : k < n = subst (λ x. k < all_segments x) knows.0 at.0.within in
       let f : Found = record { segment = k; length = length v.held } in
       let w : View K = record (reading v (length_read k (length v.held))) { seen = h; stage = Idle; found = f ∷ v.found } in
+      let still : kept.made ≡ 1 → All (IsStill kept.has) w.found = λ one. all_cons (IsStill kept.has) f v.found (sym (ap length at.1)) (fits.alone one) in
       let least : length v.held ≤ length (items_of kept.has n) = subst (λ l. length l ≤ length (items_of kept.has n)) (sym at.1) (segment_short n kept.has k within) in (
         w,
-        leave_step id v w contents here role role none refl refl refl refl refl at items (looked_whole c h (page_of v) fits.page)
-            (λ one. all_cons (IsStill kept.has) f v.found (sym (ap length at.1)) (fits.alone one)),
+        leave_step id v w contents here role role none refl refl refl refl refl at items (looked_whole c h (page_of v) fits.page) still,
         record {
           roams = record {
             same = record { shape = refl; keeper = refl; role = refl; number = refl; joined = refl };
@@ -215,6 +217,7 @@ module _ {K : Type 0} (keeps : ℕ → Type 0) (plan : Plan K) (s : State (Optio
           };
           rests = refl;
           found = refl;
+          full = λ one all. alone_whole_room keeps plan s kept id v w here role refl refl one still all;
         },
       )
 

@@ -1,28 +1,27 @@
 -- The visits of an add or a removal, one after another.
-use Rattle.std.proofs.Common.{◌≡◌, ◌≢◌, ◌==◌, ℕ, zero, suc, ◌+◌, ◌*◌, ◌<◌, ◌≤◌, ◌⊎◌, Bool, true, false, List, [], ◌∷◌, ◌++◌, length, refl, ap, ap₂, sym, ◌∙◌, subst, arith, inl, inr, ⊎_elim, append_assoc, length-append, Option, Some, None, Result, Ok, Err}
+use Rattle.std.proofs.Common.{◌≡◌, ◌≢◌, ℕ, zero, suc, ◌<◌, Bool, true, false, List, [], ◌∷◌, ◌++◌, length, refl, ap, ap₂, sym, ◌∙◌, subst, arith, inl, inr, append_assoc, length-append, Option, Some, None, Ok, Err}
 use Rattle.std.specs.Prelude.{IfSome, Contains}
-use Rattle.std.proofs.lemmas.Bool.{cases_lt}
 use mathlib.Core.Logic.{dite}
 use native.Mathlib.Decide.{ℕ_discrete}
 use Rattle.atomic_table.specs.Table.{Me}
 use Rattle.segment_store.specs.Contents.{Contents}
-use Rattle.pass_book.specs.Pages.{IsPage}
-use Rattle.seq_objects.specs.declared.bags.BagCall.{BagCall}
+use Rattle.pass_book.specs.Histories.{IsOfCallers}
+use Rattle.pass_book.specs.Pages.{IsPage, IsPageOf}
+use Rattle.pass_book.proofs.PageSteps.{alone_whole}
 use Rattle.seq_objects.specs.declared.bags.BagCall.TheVariants.{Add, Remove}
-use Rattle.seq_objects.specs.declared.bags.BagReply.{BagReply}
-use Rattle.seq_objects.specs.declared.bags.BagReply.TheVariants.{Added, Took, Empty}
-use Rattle.shared_bag.specs.declared.shapes.Shape.{Shape}
-use Rattle.shared_bag.specs.declared.faults.AddFault.{AddFault}
+use Rattle.seq_objects.specs.declared.bags.BagReply.TheVariants.{Added, Took}
 use Rattle.shared_bag.specs.declared.faults.AddFault.TheVariants.{Busy as BusyAdd, Full, OutOfMemory}
 use Rattle.shared_bag.specs.declared.visits.AddVisit.TheVariants.{Done, Held, Full as FullVisit, NoMemory}
 use Rattle.shared_bag.specs.declared.visits.TakeVisit.TheVariants.{Found as FoundItem, Held as HeldTake, Empty as EmptyVisit}
 use Rattle.shared_bag.specs.declared.views.Found.{Found}
 use Rattle.shared_bag.specs.declared.views.View.{View}
-use Rattle.shared_bag.specs.Shapes.{all_segments, tried}
+use Rattle.shared_bag.specs.Shapes.{all_segments, tried, locale_room, IsShape, IsOwn}
+use Rattle.shared_bag.specs.Counted.{Counts}
 use Rattle.shared_bag.specs.Rule.{page_of}
-use Rattle.shared_bag.specs.Steps.{Looks, count_read, turn_read, length_read, NamesAnother, Passes, Roams, Acts, FoundAllEmpty, GetsTurn, FindsHeld, CountsUp, CountsDown, LeavesAsFound, LeavesCounted}
-use Rattle.shared_bag.specs.Visits.{IsHeld, HasLeft, FindsNoRoom, FindsNothing, Visits, SomeHeld, AddsAt, TakesAt, Sweeps}
-use Rattle.shared_bag.specs.Tries.{AddCause, AddDoes, TriesAdd}
+use Rattle.shared_bag.specs.Steps.{Looks, count_read, turn_read, length_read, Passes, Roams, Acts, FoundAllFull, GetsTurn, CountsUp, CountsDown, LeavesAsFound, LeavesCounted}
+use Rattle.shared_bag.specs.Visits.{IsHeld, HasLeft, FindsNoRoom, FindsNothing, Visits, SomeHeld, HadRoom, AddsAt, TakesAt, Sweeps}
+use Rattle.shared_bag.specs.Tries.{TriesAdd}
+use Rattle.shared_bag.proofs.Orders.{tried_all, own_tried}
 use Rattle.shared_bag.proofs.Roamings.{passes_none, passes_of, roams_after, acts_after, acts_left}
 
 abbrev items_in : Option Contents → List ℕ
@@ -59,6 +58,7 @@ module _ {K : Type 0} where
   -- a segment that was got and then left as it was found
   pub left_visit : (k count : ℕ) (v : Me (Option Contents) (View K)) (m : Me (Option Contents) (View K)) (u w : View K) → GetsTurn k v 0 m → u ≡ m.0 → length m.0.held ≡ count → LeavesAsFound u w
       → (words : Looks) × Roams v.0 w words × HasLeft count k words × (w.found ≡ record { segment = k; length = count } ∷ v.0.found)
+      × (w.shape.callers ≡ 1 → FoundAllFull w → Counts w.seen (locale_room w.shape))
   left_visit k count v m u w got same long leaves =
       let left : LeavesAsFound m.0 w = subst (λ x. LeavesAsFound x w) same leaves in
       let roams : Roams m.0 w (length_read k count ∷ []) = subst (λ x. Roams m.0 w (length_read x count ∷ [])) got.named (subst (λ x. Roams m.0 w (length_read m.0.segment x ∷ [])) long left.roams) in
@@ -69,6 +69,7 @@ module _ {K : Type 0} where
         roams_after v.0 m.0 w (turn_read k 0 ∷ []) (length_read k count ∷ []) (passes_of v.0 m.0 (turn_read k 0 ∷ []) got.roams) roams,
         refl,
         left.found ∙ ap₂ (λ a b. a ∷ b) same' got.known,
+        left.full,
       )
 
   -- a segment that was got, into which the item was added
@@ -89,7 +90,19 @@ module _ {K : Type 0} where
         subst (λ o. IfSome o (λ q. keeps q item)) (ap (λ x. x.keeper) same ∙ got.roams.same.keeper) counts.kept,
       )
 
-  -- the visits of an add so far
+  -- what a caller that is alone has seen stays the same where it enters nothing
+  roams_still : (v w : View K) (words : Looks) → IsPage v.number (page_of v) → Roams v w words → v.shape.callers ≡ 1 → w.seen ≡ v.seen
+  roams_still v w words own roams one =
+      let below = roams.below in
+      let first : v.number ≡ 0 = omega arith in
+      let fits : IsPageOf v.number w.seen (page_of v) = record { whole = sym roams.enters.mine ∙ roams.enters.own; own = own; begins = roams.enters.seen } in
+      sym (alone_whole w.seen (page_of v) (subst (λ k. IsOfCallers k w.seen) one roams.callers) (subst (λ c. IsPageOf c w.seen (page_of v)) first fits))
+
+  had_room : (v m : View K) → m.shape ≡ v.shape → (v.shape.callers ≡ 1 → m.seen ≡ v.seen) → HadRoom m → HadRoom v
+  had_room v m shape still had one counts =
+      had (ap (λ s. s.callers) shape ∙ one) (subst (λ s. Counts m.seen (locale_room s)) (sym shape) (subst (λ h. Counts h (locale_room v.shape)) (sym (still one)) counts))
+
+  -- The visits of an add so far. Where all were full, they were found so
   pub record AddsSoFar (v w : View K) (n : ℕ) (some_held : Bool) : Type 0 where
     pub words : Looks
     pub passes : Passes v w words
@@ -97,6 +110,9 @@ module _ {K : Type 0} where
     pub visits : Visits (FindsNoRoom v.shape v.number) (tried v.shape v.number) n words
     pub held : some_held ≡ true → SomeHeld v.shape.callers v.number words × (v.shape.callers ≢ 1)
     pub full : some_held ≡ false → Visits (HasLeft v.shape.room) (tried v.shape v.number) n words
+    pub still : v.shape.callers ≡ 1 → w.seen ≡ v.seen
+    pub found : some_held ≡ false → (j : ℕ) → j < n → Contains w.found (record { segment = tried v.shape v.number j; length = v.shape.room })
+    pub counts : some_held ≡ false → n ≢ 0 → w.shape.callers ≡ 1 → FoundAllFull w → Counts w.seen (locale_room w.shape)
 
   pub adds_none : (v : View K) → IsPage v.number (page_of v) → AddsSoFar v v 0 false
   adds_none v own = record {
@@ -106,6 +122,9 @@ module _ {K : Type 0} where
     visits = refl;
     held = λ is. absurd (cc is);
     full = λ is. refl;
+    still = λ one. refl;
+    found = λ is j less. absurd (omega arith);
+    counts = λ is some. absurd (some refl);
   }
 
   held_as : (v m : View K) (k k' : ℕ) (here : Looks) → m.shape ≡ v.shape → m.number ≡ v.number → k ≡ k' → IsHeld m.shape.callers m.number k here → IsHeld v.shape.callers v.number k' here
@@ -123,10 +142,13 @@ module _ {K : Type 0} where
         visits = (so_far.words, here, refl, so_far.visits, inl held');
         held = λ is. ((so_far.words, [], tried v.shape v.number n, held'.0, held'.1, ap (λ l. so_far.words ++ l) held'.2), subst (λ x. x.callers ≢ 1) same.shape not_alone);
         full = λ is. absurd (cc is);
+        still = λ one. absurd (not_alone (ap (λ x. x.callers) same.shape ∙ one));
+        found = λ is. absurd (cc is);
+        counts = λ is. absurd (cc is);
       }
 
-  pub adds_full : (item k n : ℕ) (some_held : Bool) (v m w : View K) → k ≡ tried v.shape v.number n → AddsSoFar v m n some_held → AddsAt item k m w FullVisit → AddsSoFar v w (suc n) some_held
-  adds_full item k n some_held v m w at so_far (here, roams, left) =
+  pub adds_full : (item k n : ℕ) (some_held : Bool) (v m w : View K) → IsPage v.number (page_of v) → k ≡ tried v.shape v.number n → AddsSoFar v m n some_held → AddsAt item k m w FullVisit → AddsSoFar v w (suc n) some_held
+  adds_full item k n some_held v m w own at so_far (here, roams, left, found, counts) =
       let same = so_far.passes.same in
       let all = roams_after v m w so_far.words here so_far.passes roams in
       let left' : HasLeft v.shape.room (tried v.shape v.number n) here = subst (λ x. HasLeft v.shape.room x here) at (subst (λ x. HasLeft x.room k here) same.shape left) in record {
@@ -136,25 +158,38 @@ module _ {K : Type 0} where
         visits = (so_far.words, here, refl, so_far.visits, inr left');
         held = λ is. (some_later v.shape.callers v.number so_far.words here (so_far.held is).0, (so_far.held is).1);
         full = λ is. (so_far.words, here, refl, so_far.full is, left');
+        still = roams_still v w (so_far.words ++ here) own all;
+        found = λ is j less.
+            let g : Found = record { segment = tried v.shape v.number j; length = v.shape.room } in
+            let f : Found = record { segment = k; length = m.shape.room } in
+            let f' : Found = record { segment = tried v.shape v.number n; length = v.shape.room } in
+            let last : f ≡ f' = ap₂ (λ a b. record { segment = a; length = b }) at (ap (λ x. x.room) same.shape) in
+            subst (λ l. Contains l g) (sym (found ∙ ap (λ x. x ∷ m.found) last))
+            (dite (ℕ_discrete j n)
+            (λ here'. subst (λ i. Contains (f' ∷ m.found) (record { segment = tried v.shape v.number i; length = v.shape.room })) (sym here') (zero, omega arith, refl))
+            (λ away. contains_cons f' g m.found (so_far.found is j (omega arith))));
+        counts = λ is some. counts;
       }
 
   pub adds_done : (item k n : ℕ) (some_held : Bool) (v m w : View K) → IsPage v.number (page_of v) → k ≡ tried v.shape v.number n → n < v.shape.segments → AddsSoFar v m n some_held → AddsAt item k m w Done → TriesAdd item v w (Ok tt)
-  adds_done item k n some_held v m w own at less so_far (found, acts) =
+  adds_done item k n some_held v m w own at less so_far (found, acts, had) =
       let acts' : Acts m w (Add item) Added (turn_read (tried v.shape v.number n) 0 ∷ count_read found ∷ []) = subst (λ x. Acts m w (Add item) Added (turn_read x 0 ∷ count_read found ∷ [])) at acts in record {
         words = so_far.words ++ turn_read (tried v.shape v.number n) 0 ∷ count_read found ∷ [];
         does = acts_after v m w (Add item) Added so_far.words (turn_read (tried v.shape v.number n) 0 ∷ count_read found ∷ []) own so_far.passes acts';
         cause = (n, found, so_far.words, less, so_far.visits, refl);
         not_alone = λ busy. absurd busy;
+        full_alone = λ one. ((λ is. absurd (cc is)), λ counts. absurd (had_room v m so_far.passes.same.shape so_far.still had one counts));
       }
 
   pub adds_no_memory : (item k n : ℕ) (some_held : Bool) (v m w : View K) → k ≡ tried v.shape v.number n → n < v.shape.segments → AddsSoFar v m n some_held → AddsAt item k m w NoMemory → TriesAdd item v w (Err OutOfMemory)
-  adds_no_memory item k n some_held v m w at less so_far (here, roams, (count, room, left)) =
+  adds_no_memory item k n some_held v m w at less so_far (here, roams, (count, room, left), had) =
       let same = so_far.passes.same in
       let left' : HasLeft count (tried v.shape v.number n) here = subst (λ x. HasLeft count x here) at left in record {
         words = so_far.words ++ here;
         does = roams_after v m w so_far.words here so_far.passes roams;
         cause = (n, count, so_far.words, less, so_far.visits, subst (λ x. count < x.room) same.shape room, ap (λ l. so_far.words ++ l) left');
         not_alone = λ busy. absurd busy;
+        full_alone = λ one. ((λ is. absurd (cc is)), λ counts. absurd (had_room v m same.shape so_far.still had one counts));
       }
 
   pub adds_busy : (item n : ℕ) (some_held : Bool) (v w : View K) → n ≡ v.shape.segments → n ≢ 0 → AddsSoFar v w n some_held → some_held ≡ true → TriesAdd item v w (Err BusyAdd)
@@ -163,14 +198,26 @@ module _ {K : Type 0} where
     does = so_far.roams some;
     cause = (subst (λ x. Visits (FindsNoRoom v.shape v.number) (tried v.shape v.number) x so_far.words) all so_far.visits, (so_far.held is).0);
     not_alone = λ busy. (so_far.held is).1;
+    full_alone = λ one. absurd ((so_far.held is).1 one);
   }
 
-  pub adds_nowhere : (item n : ℕ) (some_held : Bool) (v w : View K) → n ≡ v.shape.segments → n ≢ 0 → AddsSoFar v w n some_held → some_held ≡ false → TriesAdd item v w (Err Full)
-  adds_nowhere item n some_held v w all some so_far is = record {
+  pub adds_nowhere : (item n : ℕ) (some_held : Bool) (v w : View K) → IsShape v.shape → n ≡ v.shape.segments → n ≢ 0 → AddsSoFar v w n some_held → some_held ≡ false → TriesAdd item v w (Err Full)
+  adds_nowhere item n some_held v w shaped all some so_far is = record {
     words = so_far.words;
     does = so_far.roams some;
     cause = subst (λ x. Visits (HasLeft v.shape.room) (tried v.shape v.number) x so_far.words) all (so_far.full is);
     not_alone = λ busy. absurd busy;
+    full_alone = λ one. (
+      (λ full.
+          let same = so_far.passes.same in
+          let all_full : FoundAllFull w = λ k within own.
+          let own' : IsOwn v.shape v.number k = subst (λ c. IsOwn v.shape c k) same.number (subst (λ x. IsOwn x w.number k) same.shape own) in
+          let place = own_tried v.shape v.number k shaped own' in
+          let there : Contains w.found (record { segment = k; length = v.shape.room }) = subst (λ x. Contains w.found (record { segment = x; length = v.shape.room })) place.2 (so_far.found is place.0 (let less = place.1 in omega arith)) in
+          subst (λ x. Contains w.found (record { segment = k; length = x.room })) (sym same.shape) there in
+          subst (λ x. Counts w.seen (locale_room x)) same.shape (so_far.counts is some (ap (λ x. x.callers) same.shape ∙ one) all_full)),
+      λ counts. refl,
+    );
   }
 
   -- the visits of a removal so far
@@ -224,3 +271,15 @@ module _ {K : Type 0} where
         acts_after v m w Remove (Took item) so_far.words (turn_read (tried v.shape v.number n) 0 ∷ count_read found ∷ []) own so_far.passes acts',
         subst (λ o. IfSome o (λ q. keeps q item)) so_far.passes.same.keeper kept,
       )
+
+  -- a removal has visited all segments
+  pub sweeps_all : (keeps : K → ℕ → Type 0) (n : ℕ) (v w : View K) → IsShape v.shape → n ≡ all_segments v.shape → n ≢ 0 → SweepsSoFar v w n → Sweeps keeps v w None
+  sweeps_all keeps n v w is all some so_far = (
+    so_far.words,
+    subst (λ x. Visits (FindsNothing v.shape v.number) (tried v.shape v.number) x so_far.words) all so_far.visits,
+    so_far.roams some,
+    λ one k within.
+        let within' : k < all_segments v.shape = subst (λ x. k < all_segments x) so_far.passes.same.shape within in
+        let place = tried_all v.shape v.number k is within' in
+        subst (λ x. Contains w.found (record { segment = x; length = 0 })) place.2 (so_far.alone one place.0 (subst (λ x. place.0 < x) (sym all) place.1)),
+  )

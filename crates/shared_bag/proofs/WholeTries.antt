@@ -1,11 +1,11 @@
 -- A whole try of a removal, and what the tries say of a pass.
-use Rattle.std.proofs.Common.{◌≡◌, ◌≢◌, ℕ, ◌<◌, List, [], ◌∷◌, ◌++◌, refl, ap, sym, ◌∙◌, subst, arith, inl, inr, Option, Some, None, Result, Ok, Err}
+use Rattle.std.proofs.Common.{◌≡◌, ◌≢◌, ℕ, ◌<◌, [], ◌∷◌, ◌++◌, refl, ap, sym, ◌∙◌, subst, arith, inl, inr, Option, Some, None, Result, Ok, Err}
 use Rattle.std.specs.Prelude.{IfOk, IfSome}
 use Rattle.pass_book.specs.Histories.{IsOfCallers, entries_of}
 use Rattle.pass_book.specs.Pages.{IsPage}
 use Rattle.pass_book.proofs.Sublists.{entries_of-alone}
-use Rattle.seq_objects.specs.declared.bags.BagCall.TheVariants.{Add, Remove}
-use Rattle.seq_objects.specs.declared.bags.BagReply.TheVariants.{Added, Took, Empty}
+use Rattle.seq_objects.specs.declared.bags.BagCall.TheVariants.{Remove}
+use Rattle.seq_objects.specs.declared.bags.BagReply.TheVariants.{Took, Empty}
 use Rattle.shared_bag.specs.declared.shapes.Shape.{Shape}
 use Rattle.shared_bag.specs.declared.faults.AddFault.{AddFault}
 use Rattle.shared_bag.specs.declared.faults.Busy.{Busy}
@@ -13,9 +13,9 @@ use Rattle.shared_bag.specs.declared.views.View.{View}
 use Rattle.shared_bag.specs.Shapes.{all_segments, tried}
 use Rattle.shared_bag.specs.Counted.{BagPage}
 use Rattle.shared_bag.specs.Rule.{page_of}
-use Rattle.shared_bag.specs.Steps.{Looks, count_read, turn_read, Passes, Roams, Acts, FoundAllEmpty, FindsSome}
+use Rattle.shared_bag.specs.Steps.{Looks, count_read, turn_read, Roams, Acts, FindsSome}
 use Rattle.shared_bag.specs.Visits.{FindsNothing, Visits, Sweeps}
-use Rattle.shared_bag.specs.Tries.{AddDoes, RemoveDoes, IsBusyAdd, IsBusyRemove, TriesAdd, TriesRemove}
+use Rattle.shared_bag.specs.Tries.{AddDoes, RemoveDoes, IsFullAlone, IsBusyAdd, IsBusyRemove, TriesAdd, TriesRemove}
 use Rattle.shared_bag.proofs.Roamings.{passes_of, roams_after, acts_after}
 
 -- what a caller alone has seen is all its own
@@ -96,6 +96,9 @@ module _ {K : Type 0} where
   -- an add of the one caller of a bag
   pub adds_alone : (m item : ℕ) (v w : View K) (result : Result Unit AddFault) → v.shape.callers ≡ m → TriesAdd item v w result → m ≡ 1 → (¬ IsBusyAdd result) × (w.seen ≡ w.mine)
   adds_alone m item v w result callers tries one = ((λ busy. tries.not_alone busy (callers ∙ one)), add_alone item v w tries.words result tries.does (callers ∙ one))
+
+  pub adds_full_alone : (shape : Shape) (item : ℕ) (v w : View K) (result : Result Unit AddFault) → v.shape ≡ shape → TriesAdd item v w result → IsFullAlone shape v.seen w.seen result
+  adds_full_alone shape item v w result is tries = subst (λ s. IsFullAlone s v.seen w.seen result) is tries.full_alone
 
   -- a removal of the one caller of a bag
   pub removes_alone : (keeps : K → ℕ → Type 0) (m : ℕ) (v w : View K) (result : Result (Option ℕ) Busy) → v.shape.callers ≡ m → TriesRemove keeps v w result → m ≡ 1 → (¬ IsBusyRemove result) × (w.seen ≡ w.mine)

@@ -6,7 +6,7 @@ use Rattle.shared_bag.specs.declared.faults.Busy.{Busy}
 use Rattle.shared_bag.specs.declared.bags.Bag.{Bag}
 use Rattle.shared_bag.specs.declared.passes.BagPass.{BagPass}
 use Rattle.shared_bag.specs.Steps.{Looks, Meets}
-use Rattle.shared_bag.specs.Tries.{AddCause, RemoveCause, AddEnters, RemoveEnters, IsBusyAdd, IsBusyRemove}
+use Rattle.shared_bag.specs.Tries.{AddCause, RemoveCause, AddEnters, RemoveEnters, IsFullAlone, IsBusyAdd, IsBusyRemove}
 use Rattle.shared_bag.specs.Passes.{shape_of, callers_of, pass_opening, caller_of, page, looked}
 
 -- it is the same caller's pass from the same opening
@@ -44,6 +44,10 @@ module _ {K : Type 0} (b : Bag K) (old new : BagPass K) where
   -- the same of a removal
   abbrev pub RemovesAlone : Result (Option ℕ) Busy → Type 0
   RemovesAlone result = callers_of b ≡ 1 → (¬ IsBusyRemove result) × ((page new).seen ≡ (page new).mine)
+
+  -- a bag of one caller is full exactly where it has as many items as a locale has room for
+  abbrev pub FullAlone : Result Unit AddFault → Type 0
+  FullAlone result = IsFullAlone (shape_of b) (page old).seen (page new).seen result
 
   -- the removal has its entry
   abbrev pub RemovalIsMade : Option ℕ → Type 0

@@ -1,5 +1,5 @@
 -- What a bag's history leaves, and how many items that is.
-use Rattle.std.specs.Prelude.{◌≡◌, ℕ, zero, suc, ◌≤◌, List, [], ◌∷◌, ◌++◌, length}
+use Rattle.std.specs.Prelude.{◌≡◌, ℕ, zero, suc, ◌≤◌, List, [], ◌++◌, length}
 use Rattle.pass_book.specs.declared.entries.Entry.{Entry}
 use Rattle.pass_book.specs.Histories.{Leaves, IsLegal}
 use Rattle.pass_book.specs.Pages.{Page, Enters, EntersNothing}

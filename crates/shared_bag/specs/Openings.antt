@@ -1,11 +1,11 @@
 -- What the opening of a bag gives.
-use Rattle.std.specs.Prelude.{◌≡◌, ℕ, ◌≤◌, ◌<◌, List, [], length, Some, slice_get}
+use Rattle.std.specs.Prelude.{◌≡◌, ℕ, List, [], length, Some, slice_get}
 use Rattle.shared_bag.specs.declared.shapes.Shape.{Shape}
 use Rattle.shared_bag.specs.declared.bags.Bag.{Bag}
 use Rattle.shared_bag.specs.declared.passes.BagPass.{BagPass}
 use Rattle.shared_bag.specs.declared.views.View.{View}
 use Rattle.shared_bag.specs.Steps.{opener}
-use Rattle.shared_bag.specs.Passes.{opening_of, shape_of, callers_of, keeper_of, pass_opening, caller_of, page, looked}
+use Rattle.shared_bag.specs.Passes.{opening_of, shape_of, keeper_of, pass_opening, caller_of, page, looked}
 
 module _ {K : Type 0} where
   -- a pass from the opening of this bag, which has made no call and seen nothing

@@ -1,12 +1,11 @@
 -- What contracts see of a bag, a pass and a note.
 use Rattle.std.specs.Prelude.{◌≡◌, ℕ, List, [], Option, Some}
 use Rattle.atomic_table.specs.Seated.{TableId}
-use Rattle.atomic_table.specs.Table.{Me}
 use Rattle.atomic_table.specs.declared.shared.Seat.{Seat}
 use Rattle.segment_store.specs.Contents.{Contents}
 use Rattle.shared_bag.specs.declared.shapes.Shape.{Shape}
 use Rattle.shared_bag.specs.declared.views.View.{View}
-use Rattle.shared_bag.specs.declared.views.Role.TheVariants.{Caller, Note}
+use Rattle.shared_bag.specs.declared.views.Role.TheVariants.{Caller}
 use Rattle.shared_bag.specs.declared.bags.Bag.{Bag}
 use Rattle.shared_bag.specs.declared.passes.BagPass.{BagPass}
 use Rattle.shared_bag.specs.declared.passes.BagNote.{BagNote}

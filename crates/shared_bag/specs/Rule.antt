@@ -1,5 +1,5 @@
 -- The rule of a bag's table: there is one legal history, which leaves the items of all segments, at home or moved out, of which each view has seen a beginning with all of its caller's entries in it.
-use Rattle.std.specs.Prelude.{◌≡◌, ◌≢◌, ℕ, ◌+◌, ◌<◌, ◌≤◌, List, [], length, slice_index, All, Option, Some}
+use Rattle.std.specs.Prelude.{◌≡◌, ◌≢◌, ℕ, ◌+◌, ◌/◌, ◌<◌, ◌≤◌, List, [], length, slice_index, All, Option, Some}
 use mathlib.Core.Option.{some}
 use mathlib.Core.List.{IsPrefix}
 use lib.ListN.{get_elem?}
@@ -7,6 +7,7 @@ use Rattle.atomic_table.specs.Table.{State}
 use Rattle.segment_store.specs.Contents.{Contents}
 use Rattle.pass_book.specs.Histories.{IsOfCallers}
 use Rattle.pass_book.specs.Pages.{IsPageOf}
+use Rattle.shared_bag.specs.declared.shapes.Shape.{Shape}
 use Rattle.shared_bag.specs.declared.views.Plan.{Plan}
 use Rattle.shared_bag.specs.declared.views.Role.{Role}
 use Rattle.shared_bag.specs.declared.views.Role.TheVariants.{Opener, Caller, Note, Spent}
@@ -39,11 +40,13 @@ pub record HasSegment (turn : ℕ → ℕ) (n caller segment : ℕ) : Type 0 whe
 abbrev pub IsHome : Homes → ℕ → List ℕ → Type 0
 IsHome homes segment items = (spare : ℕ) × (get_elem? homes segment ≡ some (some (Some (record { items = items; spare = spare }))))
 
--- A segment has items, fitting and kept, as the steps on the count have made them. Its turn names one of the callers, or nobody, and then it is at home
-pub record SegmentFits (turn : ℕ → ℕ) (homes : Homes) (has : ℕ → List ℕ) (keeps : ℕ → Type 0) (room made segment : ℕ) : Type 0 where
+-- A segment has items, fitting and kept, as the steps on the count have made them. Its turn names one of the callers, or nobody, and then it is at home.
+-- In a locale that has no caller yet it is empty
+pub record SegmentFits (turn : ℕ → ℕ) (homes : Homes) (has : ℕ → List ℕ) (keeps : ℕ → Type 0) (shape : Shape) (made segment : ℕ) : Type 0 where
   pub named : turn segment ≤ made
   pub home : turn segment ≡ 0 → IsHome homes segment (has segment)
-  pub short : length (has segment) ≤ room
+  pub short : length (has segment) ≤ shape.room
+  pub unused : made ≤ segment / shape.segments → has segment ≡ []
   pub kept : All keeps (has segment)
 
 -- a segment has as many items as a caller found there
@@ -110,6 +113,6 @@ module _ {K : Type 0} where
     pub log : IsLog keeps made history
     pub leaves : LeavesItems history (items_of has (all_segments plan.shape))
     pub count : slice_index s.words 0 ≡ length (items_of has (all_segments plan.shape))
-    pub segments : (segment : ℕ) → segment < all_segments plan.shape → SegmentFits (turn_in s.words) s.homes has keeps plan.shape.room made segment
+    pub segments : (segment : ℕ) → segment < all_segments plan.shape → SegmentFits (turn_in s.words) s.homes has keeps plan.shape made segment
     pub plans : (k : ℕ) (v : View K) → get_elem? s.views k ≡ some v → KnowsPlan plan v v.role
     pub seats : (k : ℕ) (v : View K) → get_elem? s.views k ≡ some v → FitsAs (turn_in s.words) has made seat history k v v.role

@@ -1,6 +1,6 @@
 -- The numbers of a bag: its shape, where its words stand, and the order in which a caller tries the segments.
 -- Word 0 is the count. Then each segment has its turn. The segments are numbered by locale, and each stands in the slot of its number.
-use Rattle.std.specs.Prelude.{ℕ, ◌+◌, ◌-◌, ◌*◌, ◌/◌, ◌%◌, ◌<◌, ◌≤◌, List, slice_index}
+use Rattle.std.specs.Prelude.{◌≡◌, ℕ, ◌+◌, ◌-◌, ◌*◌, ◌/◌, ◌%◌, ◌≤◌, List, slice_index}
 use Rattle.shared_bag.specs.declared.shapes.Shape.{Shape}
 
 -- a number in a range, its ends included
@@ -17,6 +17,14 @@ pub record IsShape (shape : Shape) : Type 0 where
 -- the number of segments of all locales
 abbrev pub all_segments : Shape → ℕ
 all_segments shape = shape.locales * shape.segments
+
+-- how many items the segments of one locale have room for
+abbrev pub locale_room : Shape → ℕ
+locale_room shape = shape.segments * shape.room
+
+-- the segment is one of the caller's locale
+abbrev pub IsOwn : Shape → ℕ → ℕ → Type 0
+IsOwn shape caller segment = segment / shape.segments ≡ caller % shape.locales
 
 abbrev pub turn_place : ℕ → ℕ
 turn_place segment = segment + 1

@@ -14,11 +14,9 @@ use Rattle.shared_bag.specs.declared.words.Word.{Word}
 use Rattle.shared_bag.specs.declared.words.Word.TheVariants.{Count, Turn, Length}
 use Rattle.shared_bag.specs.declared.views.Plan.{Plan}
 use Rattle.shared_bag.specs.declared.views.Role.TheVariants.{Opener, Caller, Note, Spent}
-use Rattle.shared_bag.specs.declared.views.Stage.{Stage}
 use Rattle.shared_bag.specs.declared.views.Stage.TheVariants.{Idle, Claimed, Counted}
-use Rattle.shared_bag.specs.declared.views.Joined.{Joined}
 use Rattle.shared_bag.specs.declared.views.View.{View}
-use Rattle.shared_bag.specs.Shapes.{all_segments}
+use Rattle.shared_bag.specs.Shapes.{all_segments, locale_room, IsOwn}
 use Rattle.shared_bag.specs.Counted.{BagEntry, EntersBag, EntersNoBag, Counts, CountsAtLeast}
 use Rattle.shared_bag.specs.Rule.{page_of}
 
@@ -101,6 +99,10 @@ module _ {K : Type 0} where
   abbrev pub FoundAllEmpty : View K → Type 0
   FoundAllEmpty v = (segment : ℕ) → segment < all_segments v.shape → Contains v.found (record { segment = segment; length = 0 })
 
+  -- every segment of the caller's locale was found full
+  abbrev pub FoundAllFull : View K → Type 0
+  FoundAllFull v = (segment : ℕ) → segment < all_segments v.shape → IsOwn v.shape v.number segment → Contains v.found (record { segment = segment; length = v.shape.room })
+
   -- The count was not 0. Where the caller is alone, it has not found every segment empty
   pub record FindsSome (v w : View K) (found : ℕ) : Type 0 where
     pub roams : Roams v w (count_read found ∷ [])
@@ -115,7 +117,8 @@ module _ {K : Type 0} where
   abbrev pub IsBack : Me (Option Contents) (View K) → Type 0
   IsBack m = (contents : Contents) × (m.1 ≡ (m.0.segment, Some contents) ∷ []) × (contents.items ≡ m.0.held)
 
-  -- The turn was nobody's and is now the caller's, who has the segment
+  -- The turn was nobody's and is now the caller's, who has the segment. Where the caller is alone and the bag had as many items as a
+  -- locale has room for, each segment of its locale is full
   pub record GetsTurn (segment : ℕ) (m : Me (Option Contents) (View K)) (found : ℕ) (n : Me (Option Contents) (View K)) : Type 0 where
     pub roams : Roams m.0 n.0 (turn_read segment found ∷ [])
     pub claimed : n.0.stage ≡ Claimed
@@ -125,6 +128,7 @@ module _ {K : Type 0} where
     pub out : n.1 ≡ (segment, Some contents) ∷ []
     pub short : length contents.items ≤ m.0.shape.room
     pub known : n.0.found ≡ m.0.found
+    pub full : m.0.shape.callers ≡ 1 → IsOwn m.0.shape m.0.number segment → Counts m.0.seen (locale_room m.0.shape) → length contents.items ≡ m.0.shape.room
 
   -- The turn is another's, who can't be where there is one caller
   pub record FindsHeld (segment : ℕ) (m : Me (Option Contents) (View K)) (found : ℕ) (n : Me (Option Contents) (View K)) : Type 0 where
@@ -156,11 +160,13 @@ module _ {K : Type 0} where
   abbrev pub CountsLastDown : (K → ℕ → Type 0) → View K → ℕ → View K → Type 0
   CountsLastDown keeps v found w = (others : List ℕ) × (item : ℕ) × (v.held ≡ others ++ item ∷ []) × CountsDown keeps item others v found w
 
-  -- the segment was left as it was found
+  -- The segment was left as it was found. Where the caller is alone and has found every segment of its locale full, the bag has as many
+  -- items as a locale has room for
   pub record LeavesAsFound (v w : View K) : Type 0 where
     pub roams : Roams v w (length_read v.segment (length v.held) ∷ [])
     pub rests : w.stage ≡ Idle
     pub found : w.found ≡ record { segment = v.segment; length = length v.held } ∷ v.found
+    pub full : w.shape.callers ≡ 1 → FoundAllFull w → Counts w.seen (locale_room w.shape)
 
   abbrev pub LeavesCounted : View K → View K → Type 0
   LeavesCounted v w = w ≡ record v { stage = Idle }

@@ -7,9 +7,8 @@ use Rattle.shared_bag.specs.declared.faults.AddFault.{AddFault}
 use Rattle.shared_bag.specs.declared.faults.AddFault.TheVariants.{Busy as BusyAdd, Full, OutOfMemory}
 use Rattle.shared_bag.specs.declared.faults.Busy.{Busy}
 use Rattle.shared_bag.specs.declared.views.View.{View}
-use Rattle.shared_bag.specs.declared.views.Stage.TheVariants.{Idle}
-use Rattle.shared_bag.specs.Shapes.{tried, all_segments}
-use Rattle.shared_bag.specs.Counted.{BagPage, EntersBag, EntersNoBag}
+use Rattle.shared_bag.specs.Shapes.{tried, all_segments, locale_room}
+use Rattle.shared_bag.specs.Counted.{BagEntry, BagPage, EntersBag, EntersNoBag, Counts}
 use Rattle.shared_bag.specs.Steps.{Looks, turn_read, count_read, length_read, Passes, Roams, Acts}
 use Rattle.shared_bag.specs.Visits.{HasLeft, FindsNoRoom, FindsNothing, Visits, SomeHeld}
 
@@ -55,6 +54,11 @@ RemoveEnters caller old new (Ok (Some item)) = EntersBag caller old new Remove (
 RemoveEnters caller old new (Ok None) = EntersBag caller old new Remove Empty
 RemoveEnters caller old new (Err busy) = EntersNoBag caller old new
 
+-- In a bag of one caller: where an add is refused as full, there are as many items as a locale has room for, and where there were as many
+-- before it, it is refused as full, and for nothing else
+abbrev pub IsFullAlone : Shape → List BagEntry → List BagEntry → Result Unit AddFault → Type 0
+IsFullAlone shape old new result = shape.callers ≡ 1 → (result ≡ Err Full → Counts new (locale_room shape)) × (Counts old (locale_room shape) → result ≡ Err Full)
+
 abbrev pub IsBusyAdd : Result Unit AddFault → Type 0
 IsBusyAdd (Ok u) = ⊥
 IsBusyAdd (Err BusyAdd) = Unit {0}
@@ -81,6 +85,7 @@ module _ {K : Type 0} where
     pub does : AddDoes item v w words result
     pub cause : AddCause v.shape v.number words result
     pub not_alone : IsBusyAdd result → v.shape.callers ≢ 1
+    pub full_alone : IsFullAlone v.shape v.seen w.seen result
 
   -- one try of a removal
   pub record TriesRemove (keeps : K → ℕ → Type 0) (v w : View K) (result : Result (Option ℕ) Busy) : Type 0 where
@@ -90,9 +95,9 @@ module _ {K : Type 0} where
     pub not_alone : IsBusyRemove result → v.shape.callers ≢ 1
     pub kept : (item : ℕ) → result ≡ Ok (Some item) → IfSome v.keeper (λ k. keeps k item)
 
-  -- busy tries, one after another: nothing was entered
+  -- busy tries, one after another: nothing was entered. A caller that is alone has none
   abbrev pub Waited : View K → View K → Type 0
-  Waited v m = (before : Looks) × Passes v m before
+  Waited v m = (before : Looks) × Passes v m before × (v.shape.callers ≡ 1 → m.seen ≡ v.seen)
 
   -- an add that repeats its tries while they are busy
   pub record WaitsAdd (item : ℕ) (v w : View K) (result : Result Unit AddFault) : Type 0 where
@@ -101,6 +106,7 @@ module _ {K : Type 0} where
     pub does : AddDoes item v w (before ++ words) result
     pub cause : AddCause v.shape v.number words result
     pub calm : ¬ IsBusyAdd result
+    pub full_alone : IsFullAlone v.shape v.seen w.seen result
 
   -- a removal that repeats its tries while they are busy
   pub record WaitsRemove (keeps : K → ℕ → Type 0) (v w : View K) (taken : Option ℕ) : Type 0 where

@@ -1,16 +1,16 @@
 -- What one visit of a segment does: to its caller's page, and in the words that it reads.
-use Rattle.std.specs.Prelude.{◌≡◌, ◌≢◌, ◌⊎◌, ℕ, zero, suc, ◌<◌, List, [], ◌∷◌, ◌++◌, IfSome, Option, Some, None}
+use Rattle.std.specs.Prelude.{◌≡◌, ◌≢◌, ◌⊎◌, ℕ, zero, suc, ◌<◌, [], ◌∷◌, ◌++◌, IfSome, Option, Some, None}
 use Rattle.seq_objects.specs.declared.bags.BagCall.TheVariants.{Add, Remove}
 use Rattle.seq_objects.specs.declared.bags.BagReply.TheVariants.{Added, Took}
 use Rattle.shared_bag.specs.declared.shapes.Shape.{Shape}
 use Rattle.shared_bag.specs.declared.views.View.{View}
-use Rattle.shared_bag.specs.declared.views.Stage.TheVariants.{Idle}
 use Rattle.shared_bag.specs.declared.visits.AddVisit.{AddVisit}
 use Rattle.shared_bag.specs.declared.visits.AddVisit.TheVariants.{Done, Held, Full, NoMemory}
 use Rattle.shared_bag.specs.declared.visits.TakeVisit.{TakeVisit}
 use Rattle.shared_bag.specs.declared.visits.TakeVisit.TheVariants.{Found, Held as HeldTake, Empty}
-use Rattle.shared_bag.specs.Shapes.{tried, all_segments}
-use Rattle.shared_bag.specs.Steps.{Looks, turn_read, count_read, length_read, NamesAnother, Roams, Acts, FoundAllEmpty}
+use Rattle.shared_bag.specs.Shapes.{tried, all_segments, locale_room}
+use Rattle.shared_bag.specs.Counted.{Counts}
+use Rattle.shared_bag.specs.Steps.{Looks, turn_read, count_read, length_read, NamesAnother, Roams, Acts, FoundAllEmpty, FoundAllFull}
 
 -- the segment's turn was read as another caller's
 abbrev pub IsHeld : ℕ → ℕ → ℕ → Looks → Type 0
@@ -39,12 +39,18 @@ SomeHeld callers caller words =
     (before after : Looks) × (segment turn : ℕ) × NamesAnother callers caller turn × (words ≡ before ++ turn_read segment turn ∷ after)
 
 module _ {K : Type 0} where
+  -- where the caller is alone, what it had seen leaves another number of items than a locale has room for
+  abbrev pub HadRoom : View K → Type 0
+  HadRoom v = v.shape.callers ≡ 1 → ¬ Counts v.seen (locale_room v.shape)
+
   -- one visit of an add
   abbrev pub AddsAt : ℕ → ℕ → View K → View K → AddVisit → Type 0
-  AddsAt item segment v w Done = (found : ℕ) × Acts v w (Add item) Added (turn_read segment 0 ∷ count_read found ∷ [])
+  AddsAt item segment v w Done = (found : ℕ) × Acts v w (Add item) Added (turn_read segment 0 ∷ count_read found ∷ []) × HadRoom v
   AddsAt item segment v w Held = (words : Looks) × Roams v w words × IsHeld v.shape.callers v.number segment words × (v.shape.callers ≢ 1)
-  AddsAt item segment v w Full = (words : Looks) × Roams v w words × HasLeft v.shape.room segment words
-  AddsAt item segment v w NoMemory = (words : Looks) × Roams v w words × ((count : ℕ) × (count < v.shape.room) × HasLeft count segment words)
+  AddsAt item segment v w Full =
+      (words : Looks) × Roams v w words × HasLeft v.shape.room segment words × (w.found ≡ record { segment = segment; length = v.shape.room } ∷ v.found)
+      × (w.shape.callers ≡ 1 → FoundAllFull w → Counts w.seen (locale_room w.shape))
+  AddsAt item segment v w NoMemory = (words : Looks) × Roams v w words × ((count : ℕ) × (count < v.shape.room) × HasLeft count segment words) × HadRoom v
 
   -- one visit of a removal
   abbrev pub TakesAt : (K → ℕ → Type 0) → ℕ → View K → View K → TakeVisit → Type 0

@@ -3,7 +3,7 @@
 ghost use Rattle.std.specs.Prelude.{◌≡◌, ◌≢◌, ℕ, List, ◌+◌, ◌<◌, ◌^◌, ◌++◌, ◌∷◌, [], None, Some, length};
 ghost use Rattle.segment_store.specs.Contents.{Contents};
 ghost use Rattle.shared_bag.specs.declared.views.Stage.TheVariants.{Idle, Claimed, Counted};
-ghost use Rattle.shared_bag.specs.Shapes.{all_segments};
+ghost use Rattle.shared_bag.specs.Shapes.{all_segments, IsOwn};
 ghost use Rattle.shared_bag.specs.Steps.{Acts, FindsSome, GetsTurn, FindsHeld, count_read, ReadsCount, CountsUp, CountsLastDown, LeavesAsFound, LeavesCounted, IsBack};
 ghost use Rattle.shared_bag.specs.Passes.{IsSeatOf, keeper_of, shape_of};
 
@@ -102,6 +102,7 @@ impl<K: Keeps> Bag<K> {
         requires seat { IsSeatOf self.now seat.old }
         requires claimed { seat.old.me.0.stage ≡ Claimed }
         requires room { length seat.old.me.0.held < seat.old.me.0.shape.room }
+        requires own { IsOwn seat.old.me.0.shape seat.old.me.0.number seat.old.me.0.segment }
         requires kept { K.keeps (keeper_of self.now) W.item }
         ensures seat { IsSeatOf self.now seat.new }
         ensures counts { (found : ℕ) × CountsUp W.item seat.old.me.0 found seat.new.me.0 }

@@ -6,7 +6,7 @@ ghost use Rattle.shared_bag.specs.Rule.{page_of};
 ghost use Rattle.shared_bag.specs.Visits.{Sweeps};
 ghost use Rattle.shared_bag.specs.Tries.{TriesAdd, TriesRemove};
 ghost use Rattle.shared_bag.specs.Passes.{IsSeatOf, opening_of, keeper_of, pass_opening};
-ghost use Rattle.shared_bag.specs.Calls.{IsSamePass, AddIsMade, RemoveIsMade, AddIsCaused, RemoveIsCaused, SeesCallers, AddsAlone, RemovesAlone};
+ghost use Rattle.shared_bag.specs.Calls.{IsSamePass, AddIsMade, RemoveIsMade, AddIsCaused, RemoveIsCaused, SeesCallers, AddsAlone, RemovesAlone, FullAlone};
 
 use crate::bags::Bag;
 use crate::faults::{AddFault, Busy};
@@ -110,6 +110,7 @@ impl<K: Keeps> Bag<K> {
         ensures cause { AddIsCaused self.now pass.old pass.new result }
         ensures callers { SeesCallers self.now pass.old pass.new }
         ensures alone { AddsAlone self.now pass.old pass.new result }
+        ensures full_alone { FullAlone self.now pass.old pass.new result }
     {
         self.add_once::<Brand>(&mut pass.seat, pass.caller, item)
     }

@@ -2,7 +2,7 @@
 ghost use Rattle.std.specs.Prelude.{◌≡◌, ◌<◌, [], ◌∷◌, None};
 ghost use Rattle.pass_book.specs.Pages.{IsPage};
 ghost use Rattle.shared_bag.specs.declared.views.Stage.TheVariants.{Idle, Claimed, Counted};
-ghost use Rattle.shared_bag.specs.Shapes.{all_segments};
+ghost use Rattle.shared_bag.specs.Shapes.{all_segments, IsOwn};
 ghost use Rattle.shared_bag.specs.Rule.{page_of};
 ghost use Rattle.shared_bag.specs.Steps.{LeavesAsFound, LeavesCounted};
 ghost use Rattle.shared_bag.specs.Visits.{AddsAt, TakesAt};
@@ -77,6 +77,7 @@ impl<K: Keeps> Bag<K> {
         requires caller { seat.old.me.0.number ≡ caller }
         requires own { IsPage seat.old.me.0.number (page_of seat.old.me.0) }
         requires segment { segment < all_segments (shape_of self.now) }
+        requires own_locale { IsOwn (shape_of self.now) caller segment }
         requires item { W.item ≡ item }
         requires kept { K.keeps (keeper_of self.now) item }
         ensures seat { IsSeatOf self.now seat.new }

@@ -5,7 +5,7 @@ ghost use Rattle.shared_bag.specs.declared.views.Stage.TheVariants.{Idle};
 ghost use Rattle.shared_bag.specs.Rule.{page_of};
 ghost use Rattle.shared_bag.specs.Tries.{IsBusyAdd, WaitsAdd, WaitsRemove};
 ghost use Rattle.shared_bag.specs.Passes.{IsSeatOf, opening_of, keeper_of, pass_opening};
-ghost use Rattle.shared_bag.specs.Calls.{IsSamePass, AddIsMade, RemovalIsMade, AddWaitIsCaused, RemoveWaitIsCaused, SeesCallers, SeesOwnAlone};
+ghost use Rattle.shared_bag.specs.Calls.{IsSamePass, AddIsMade, RemovalIsMade, AddWaitIsCaused, RemoveWaitIsCaused, SeesCallers, SeesOwnAlone, FullAlone};
 
 use crate::bags::Bag;
 use crate::faults::AddFault;
@@ -98,6 +98,7 @@ impl<K: Keeps> Bag<K> {
         ensures cause { AddWaitIsCaused self.now pass.old pass.new result }
         ensures callers { SeesCallers self.now pass.old pass.new }
         ensures alone { SeesOwnAlone self.now pass.old pass.new }
+        ensures full_alone { FullAlone self.now pass.old pass.new result }
     {
         self.add_waiting::<Brand, R>(rt, &mut pass.seat, pass.caller, item)
     }

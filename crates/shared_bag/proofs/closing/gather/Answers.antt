@@ -1,4 +1,4 @@
-use Rattle.std.proofs.Common.{ap, sym, ◌∙◌, arith, ◌≡◌, rules}
+use Rattle.std.proofs.Common.{ap, ◌∙◌, ◌≡◌}
 use Rattle.shared_bag.proofs.PassJoins.{joins_pass}
 use Rattle.shared_bag.proofs.Gathers.{gathers_more, next_of}
 use Rattle.shared_bag.proofs.closing.gather.Goals as goal

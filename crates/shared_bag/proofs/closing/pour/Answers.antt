@@ -1,4 +1,4 @@
-use Rattle.std.proofs.Common.{◌≡◌, arith, ap, length, ◌+◌, ◌∙◌, ◌∷◌, [], length-append}
+use Rattle.std.proofs.Common.{arith, ap, length, ◌∙◌, ◌∷◌, [], length-append}
 use Rattle.shared_bag.proofs.Pours.{poured_one}
 use Rattle.shared_bag.proofs.closing.pour.Goals as goal
 

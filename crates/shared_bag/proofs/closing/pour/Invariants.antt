@@ -1,4 +1,4 @@
-use Rattle.std.proofs.Common.{◌≡◌, ◌≤◌, ◌+◌, ◌++◌, length, vec_len, vec_capacity}
+use Rattle.std.proofs.Common.{◌≡◌, ◌+◌, ◌++◌, length, vec_len, vec_capacity}
 use Rattle.std.specs.Prelude.{IsPermutation}
 use Rattle.shared_bag.proofs.closing.pour.Given as goal
 

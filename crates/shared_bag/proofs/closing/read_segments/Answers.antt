@@ -1,4 +1,4 @@
-use Rattle.std.proofs.Common.{◌≡◌, ◌≢◌, ℕ, zero, suc, ◌+◌, ◌<◌, ◌≤◌, ◌++◌, true, false, get_or, length, vec_len, vec_capacity, ap, sym, ◌∙◌, subst, arith, refl, Some, None, List}
+use Rattle.std.proofs.Common.{◌≡◌, suc, ◌+◌, false, get_or, length, vec_len, vec_capacity, ap, sym, ◌∙◌, subst, arith, Some, None}
 use Rattle.std.specs.Prelude.{IsPermutation, slice_set}
 use Rattle.std.specs.Slots.{slots_filled, slots_items}
 use Rattle.std.proofs.lemmas.List.{get_or-set_other}

@@ -1,4 +1,4 @@
-use Rattle.std.proofs.Common.{◌≡◌, ◌≤◌, [], length, vec_len, vec_capacity, Some}
+use Rattle.std.proofs.Common.{◌≡◌, [], vec_len, vec_capacity, Some}
 use Rattle.std.specs.Prelude.{replicate}
 use Rattle.shared_bag.proofs.opening.new_slots.Given as goal
 

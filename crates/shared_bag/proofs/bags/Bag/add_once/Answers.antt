@@ -1,6 +1,7 @@
-use Rattle.std.proofs.Common.{◌≡◌, ◌≢◌, ℕ, zero, suc, ◌+◌, ◌<◌, ap, ap₂, sym, ◌∙◌, subst, arith, true}
-use Rattle.shared_bag.specs.Shapes.{tried}
-use Rattle.shared_bag.proofs.VisitSteps.{AddsSoFar, adds_done, adds_no_memory, adds_held, adds_full, adds_busy, adds_nowhere}
+use Rattle.std.proofs.Common.{◌≡◌, ◌≢◌, suc, ◌+◌, ◌<◌, ap, ap₂, sym, ◌∙◌, subst, arith, true}
+use Rattle.shared_bag.specs.Shapes.{IsShape, IsOwn, tried}
+use Rattle.shared_bag.proofs.Orders.{tried_own}
+use Rattle.shared_bag.proofs.VisitSteps.{AddsSoFar, adds_done, adds_no_memory, adds_held, adds_full, adds_nowhere}
 use Rattle.shared_bag.proofs.bags.Bag.add_once.Goals as goal
 use Rattle.shared_bag.proofs.bags.Bag.add_once.Goals.{in-Held, in-Full}
 
@@ -32,6 +33,21 @@ loop-place-preserved g c =
       | in-Held w ↦ subst (λ b. AddsSoFar v w' (c.loop-place.place + 1) b) (sym w.some_held-is)
           (subst (λ k. AddsSoFar v w' k true) next (adds_held c.args.item c.tried-segment.result c.loop-place.place c.loop-place.some_held v c.loop-place.seat.me.0 w' at c.loop-place.invariant.so_far w.in-Held.ensures.adds))
       | in-Full w ↦ subst (λ b. AddsSoFar v w' (c.loop-place.place + 1) b) (sym w.some_held-is)
-          (subst (λ k. AddsSoFar v w' k c.loop-place.some_held) next (adds_full c.args.item c.tried-segment.result c.loop-place.place c.loop-place.some_held v c.loop-place.seat.me.0 w' at c.loop-place.invariant.so_far w.in-Full.ensures.adds))
+          (subst (λ k. AddsSoFar v w' k c.loop-place.some_held) next (adds_full c.args.item c.tried-segment.result c.loop-place.place c.loop-place.some_held v c.loop-place.seat.me.0 w' c.requires.own at c.loop-place.invariant.so_far w.in-Full.ensures.adds))
     ] in
     record { seat = c.add_at.ensures.seat; idle = c.add_at.ensures.rests.0; empty = c.add_at.ensures.rests.1; so_far = so_far }
+
+pub add_at-requires-clause-own_locale : goal.add_at-requires-clause-own_locale
+add_at-requires-clause-own_locale g c =
+    let self = c.args.self.now in
+    let own : IsOwn self.shape c.args.caller c.tried-segment.result = subst (λ k. IsOwn self.shape c.args.caller k) (sym c.tried-segment.ensures.segment) (tried_own self.shape c.args.caller c.loop-place.place self.shaped c.loop-place-test.true) in
+    subst (λ s. IsOwn s c.args.caller c.tried-segment.result) (sym self.planned) own
+
+pub returns-clause-tries : goal.returns-clause-tries
+returns-clause-tries g c =
+    let v = c.args.seat.now.me.0 in
+    let shape = ap (λ o. o.shape) c.requires.seat.opening ∙ c.args.self.now.planned in
+    let is : IsShape v.shape = subst IsShape (sym shape) c.args.self.now.shaped in
+    let end : c.loop-place.place ≡ v.shape.segments = omega (arith, c.loop-place-test.false, c.loop-place.auto, ap (λ s. s.segments) shape) in
+    let some : c.loop-place.place ≢ 0 = (let least = is.segments.0 in omega arith) in
+    adds_nowhere c.args.item c.loop-place.place c.loop-place.some_held v c.loop-place.seat.me.0 is end some c.loop-place.invariant.so_far c.if-some_held.false

@@ -1,10 +1,10 @@
-use Rattle.std.proofs.Common.{[], ◌≡◌, Ok, Err, Result}
+use Rattle.std.proofs.Common.{[], refl, Ok}
 use Rattle.shared_bag.proofs.Roamings.{passes_none}
 use Rattle.shared_bag.proofs.WaitSteps.{waited_add, waits_add}
 use Rattle.shared_bag.proofs.bags.Bag.add_waiting.Goals as goal
 
 pub loop-init : goal.loop-init
-loop-init g c = record { seat = c.requires.seat; idle = c.requires.rests.0; empty = c.requires.rests.1; waited = ([], passes_none c.args.seat.now.me.0 c.requires.own) }
+loop-init g c = record { seat = c.requires.seat; idle = c.requires.rests.0; empty = c.requires.rests.1; waited = ([], passes_none c.args.seat.now.me.0 c.requires.own, λ one. refl) }
 
 pub returns-in-Ok-clause-waits : goal.returns-in-Ok-clause-waits
 returns-in-Ok-clause-waits g c = waits_add _ c.args.seat.now.me.0 c.loop.seat.me.0 _ (Ok tt) c.requires.own c.loop.invariant.waited c.in-Ok.ensures.tries (λ busy. busy)

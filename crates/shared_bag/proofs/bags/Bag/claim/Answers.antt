@@ -1,5 +1,5 @@
-use Rattle.std.proofs.Common.{ap, sym, ◌∙◌, arith, rules, ◌≡◌, ◌<◌, ◌+◌, ◌-◌, ◌*◌, ℕ, subst}
-use Rattle.shared_bag.specs.Shapes.{turn_place, segment_at, all_segments}
+use Rattle.std.proofs.Common.{ap, arith, ◌≡◌, ◌+◌, subst}
+use Rattle.shared_bag.specs.Shapes.{segment_at, all_segments}
 use Rattle.shared_bag.specs.Steps.{Claims}
 use Rattle.shared_bag.proofs.TurnSteps.{claims}
 use Rattle.shared_bag.proofs.Roamings.{got_turn, found_held}

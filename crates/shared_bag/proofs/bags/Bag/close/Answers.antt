@@ -1,4 +1,4 @@
-use Rattle.std.proofs.Common.{◌≡◌, refl, ap, sym, ◌∙◌, arith, length, subst, ◌≤◌, ◌<◌}
+use Rattle.std.proofs.Common.{◌≡◌, refl, ap, sym, ◌∙◌, arith, length, subst, ◌≤◌}
 use Rattle.std.specs.Slots.{slots_items}
 use Rattle.std.proofs.lemmas.List.{length-map}
 use Rattle.shared_bag.specs.Shapes.{all_segments}

@@ -7,5 +7,5 @@ fetch_add-requires g c =
     let seat = c.requires.seat in (
       ap (λ o. o.table) seat.opening,
       omega (arith, c.args.self.now.wide),
-      counts_item_up _ _ _ _ c.args.seat.now.me _ seat.role c.requires.claimed seat.joined c.requires.room c.requires.kept,
+      counts_item_up _ _ _ _ c.args.seat.now.me _ seat.role c.requires.claimed seat.joined c.requires.room c.requires.own c.requires.kept,
     )

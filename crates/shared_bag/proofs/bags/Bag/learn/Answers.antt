@@ -1,7 +1,5 @@
-use Rattle.std.proofs.Common.{ap, sym, ◌∙◌, arith, rules, ◌≡◌, [], subst}
+use Rattle.std.proofs.Common.{ap, sym, ◌∙◌, arith, ◌≡◌, subst}
 use Rattle.pass_book.specs.Pages.{IsPage}
-use Rattle.shared_bag.specs.declared.views.Role.TheVariants.{Caller}
-use Rattle.shared_bag.specs.declared.views.Stage.TheVariants.{Idle}
 use Rattle.shared_bag.specs.Rule.{page_of}
 use Rattle.shared_bag.proofs.NoteSteps.{joins_note, learns_note}
 use Rattle.shared_bag.proofs.bags.Bag.learn.Goals as goal

@@ -1,4 +1,4 @@
-use Rattle.std.proofs.Common.{ap, sym, ◌∙◌, arith, rules, ◌≡◌, ◌<◌, ◌+◌, ◌*◌, ℕ}
+use Rattle.std.proofs.Common.{ap, arith}
 use Rattle.shared_bag.specs.Shapes.{all_segments}
 use Rattle.shared_bag.proofs.TurnSteps.{leaves_after}
 use Rattle.shared_bag.proofs.bags.Bag.leave_counted.Goals as goal

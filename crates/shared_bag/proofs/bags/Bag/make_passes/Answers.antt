@@ -1,4 +1,4 @@
-use Rattle.std.proofs.Common.{ap, ap₂, sym, ◌∙◌, arith, rules, ◌≡◌, ◌<◌, [], ◌∷◌, ◌++◌, subst, refl, length, length-append}
+use Rattle.std.proofs.Common.{ap, ap₂, ◌∙◌, arith, ◌<◌, []}
 use Rattle.shared_bag.specs.Steps.{opener_next, newcomer}
 use Rattle.shared_bag.specs.Rule.{page_of}
 use Rattle.shared_bag.specs.Passes.{opening_at}

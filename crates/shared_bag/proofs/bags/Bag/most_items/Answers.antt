@@ -1,4 +1,4 @@
-use Rattle.std.proofs.Common.{◌≡◌, ◌<◌, ◌≤◌, arith, length}
+use Rattle.std.proofs.Common.{arith}
 use Rattle.shared_bag.proofs.LooksBack.{greater, looks_none, next_opening, looks_more, looks_all, looks_most}
 use Rattle.shared_bag.proofs.bags.Bag.most_items.Goals as goal
 

@@ -1,4 +1,4 @@
-use Rattle.std.proofs.Common.{◌≡◌, ◌+◌, ap, sym, ◌∙◌, [], Some}
+use Rattle.std.proofs.Common.{◌+◌, ap, ◌∙◌}
 use Rattle.std.specs.Prelude.{replicate}
 use Rattle.shared_bag.proofs.Openings.{opens_with, blank}
 use Rattle.shared_bag.proofs.bags.Bag.of_shape.Goals as goal

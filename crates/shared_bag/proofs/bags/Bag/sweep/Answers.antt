@@ -1,7 +1,7 @@
-use Rattle.std.proofs.Common.{◌≡◌, ◌≢◌, ℕ, zero, suc, ◌+◌, ◌<◌, ap, ap₂, sym, ◌∙◌, subst, arith}
+use Rattle.std.proofs.Common.{◌≡◌, ◌≢◌, suc, ◌+◌, ◌<◌, ap, ap₂, sym, ◌∙◌, subst, arith}
 use Rattle.shared_bag.specs.Shapes.{IsShape, all_segments, tried}
-use Rattle.shared_bag.proofs.VisitSteps.{SweepsSoFar, sweeps_found, sweeps_held, sweeps_empty}
-use Rattle.shared_bag.proofs.Orders.{sweeps_all, some_segments}
+use Rattle.shared_bag.proofs.VisitSteps.{SweepsSoFar, sweeps_found, sweeps_held, sweeps_empty, sweeps_all}
+use Rattle.shared_bag.proofs.Orders.{some_segments}
 use Rattle.shared_bag.proofs.bags.Bag.sweep.Goals as goal
 use Rattle.shared_bag.proofs.bags.Bag.sweep.Goals.{in-Held, in-Empty}
 

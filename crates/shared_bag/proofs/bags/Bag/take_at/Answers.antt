@@ -1,4 +1,4 @@
-use Rattle.std.proofs.Common.{◌≡◌, ℕ, [], length, refl, subst, ap, sym, ◌∙◌, arith, rules}
+use Rattle.std.proofs.Common.{◌≡◌, [], length, refl, subst, ap, sym, ◌∙◌}
 use Rattle.shared_bag.specs.Steps.{CountsDown}
 use Rattle.shared_bag.proofs.VisitSteps.{same_items, left_visit, taken_visit, same_last}
 use Rattle.shared_bag.proofs.bags.Bag.take_at.Goals as goal
@@ -9,7 +9,8 @@ returns-in_default-clause-takes g c =
     let items = same_items c.args.segment got.contents c.move_out-moved.result _ got.out c.move_out-moved.ensures.segment in
     let none : c.move_out-moved.result.items ≡ [] = c.in_default.ensures.empty.0 refl in
     let long : length c.claim.new.seat.me.0.held ≡ 0 = ap length (got.held ∙ (items ∙ none)) in
-    left_visit c.args.segment 0 c.args.seat.now.me c.claim.new.seat.me _ _ got (ap (λ m. m.0) c.move_out-moved.ensures.left) long c.give_back.ensures.leaves
+    let all = left_visit c.args.segment 0 c.args.seat.now.me c.claim.new.seat.me _ _ got (ap (λ m. m.0) c.move_out-moved.ensures.left) long c.give_back.ensures.leaves in
+    (all.0, all.1, all.2, all.3)
 
 pub count_down-requires-clause-some : goal.count_down-requires-clause-some
 count_down-requires-clause-some g c =
