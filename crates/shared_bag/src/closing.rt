@@ -117,6 +117,7 @@ impl<K: Keeps> Bag<K> {
         requires all { AreOfAllCallers self passes.items }
         ensures ok { IfOk result (λ closed. ClosesWith self passes.items (K.keeps (keeper_of self)) closed.items.items) }
         ensures err { IfErr result (λ back. (back.bag ≡ self) × HaveLooked passes.items back.passes.items) }
+        ensures again { IfErr result (λ back. AreOfOpening back.bag back.passes.items × AreOfAllCallers back.bag back.passes.items) }
     {
         let segments = self.shape.all_segments();
         let most = self.most_items(passes.as_mut_slice());

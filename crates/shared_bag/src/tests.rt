@@ -1,6 +1,8 @@
 ghost use Rattle.std.specs.Prelude.{◌≡◌, ◌≤◌, ◌+◌, All, length, IfOk, IfSome};
 ghost use Rattle.shared_bag.specs.Passes.{pass_opening, opening_of, callers_of, caller_of};
+ghost use Rattle.shared_bag.specs.Calls.{IsSamePass};
 ghost use Rattle.shared_bag.specs.Openings.{IsNewPass, ArePassesOf};
+ghost use Rattle.shared_bag.specs.Closings.{AreOfAllCallers, AreOfOpening};
 
 use super::*;
 use seq_objects::AnyItem;
@@ -102,10 +104,23 @@ fn close_alone(alloc: Global, bag: Bag<AnyItem>, pass: BagPass<AnyItem>) -> Resu
     requires opening { pass_opening pass ≡ opening_of bag }
     requires alone { (callers_of bag ≡ 1) × (caller_of pass ≡ 0) }
 {
-    let mut passes = Vec::new(alloc);
-    let Ok(()) = passes.push(pass) else {
-        return Err("memory".into());
+    let mut passes = match Vec::with_capacity(alloc, 1) {
+        Ok(passes) => passes,
+        Err(_) => Vec::with_capacity(alloc, 1)?,
     };
+    passes.push_reserved(pass);
+    match bag.close(passes) {
+        Ok(closed) => Ok(closed.items),
+        Err(back) => close_again(back),
+    }
+}
+
+// Closes a bag that came back for want of memory.
+fn close_again(back: BagBack<AnyItem>) -> Result<Vec<u64>, Fail>
+    requires opening { AreOfOpening back.bag back.passes.items }
+    requires all { AreOfAllCallers back.bag back.passes.items }
+{
+    let BagBack { bag, passes } = back;
     match bag.close(passes) {
         Ok(closed) => Ok(closed.items),
         Err(_) => Err("memory".into()),
@@ -176,18 +191,41 @@ fn all_added(alloc: Global, adders: u64, each: u64) -> Result<Vec<u64>, AllocErr
     Ok(all)
 }
 
+// Opens a bag of one caller, and once more where memory was refused.
+fn open_again(
+    alloc: Global,
+    segments: u32,
+    room: u32,
+) -> Result<(Bag<AnyItem>, Vec<BagPass<AnyItem>>), BagFault>
+    ensures passes { IfOk result (λ r. ArePassesOf r.0 r.1.items × (length r.1.items ≡ 1)) }
+    ensures alone { IfOk result (λ r. callers_of r.0 ≡ 1) }
+{
+    match Bag::open(alloc, 1, segments, room, 1, AnyItem) {
+        Ok(opened) => Ok(opened),
+        Err(_) => Bag::open(alloc, 1, segments, room, 1, AnyItem),
+    }
+}
+
 // A bag of one caller, and its pass.
 fn alone(alloc: Global, segments: u32, room: u32) -> Result<(Bag<AnyItem>, BagPass<AnyItem>), Fail>
     ensures { IfOk result (λ r. (pass_opening r.1 ≡ opening_of r.0) × (callers_of r.0 ≡ 1) × (caller_of r.1 ≡ 0)) }
 {
-    let (bag, mut passes) = match Bag::open(alloc, 1, segments, room, 1, AnyItem) {
-        Ok(opened) => opened,
-        Err(_) => return Err("the bag was not opened".into()),
-    };
+    let (bag, mut passes) = open_again(alloc, segments, room)?;
     let Some(pass) = passes.pop() else {
         return Err("there is no pass".into());
     };
     Ok((bag, pass))
+}
+
+// Tries an add, and once more where memory was refused. So the tests of one caller pass with any one allocation failing.
+fn add_again(bag: &Bag<AnyItem>, pass: &mut BagPass<AnyItem>, item: u64) -> Result<(), AddFault>
+    requires { pass_opening pass.old ≡ opening_of bag.now }
+    ensures { IsSamePass pass.old pass.new }
+{
+    match bag.try_add(pass, item) {
+        Err(AddFault::OutOfMemory) => bag.try_add(pass, item),
+        answer => answer,
+    }
 }
 
 #[test]
@@ -195,8 +233,8 @@ fn one_segment_is_filled_and_gives_its_newest(rt: HostRuntime) -> Result<(), Fai
     let (bag, mut pass) = alone(rt.alloc(), 1, 2)?;
     crosses(&bag);
     moves(&pass);
-    assert_eq!(rt; bag.try_add(&mut pass, 5), Ok(()));
-    assert_eq!(rt; bag.try_add(&mut pass, 6), Ok(()));
+    assert_eq!(rt; add_again(&bag, &mut pass, 5), Ok(()));
+    assert_eq!(rt; add_again(&bag, &mut pass, 6), Ok(()));
     assert_eq!(rt; bag.try_add(&mut pass, 7), Err(AddFault::Full));
     assert_eq!(rt; bag.try_remove(&mut pass), Ok(Some(6)));
     assert_eq!(rt;
@@ -211,13 +249,29 @@ fn rooms_at_the_borders_of_blocks_are_filled(rt: HostRuntime) -> Result<(), Fail
     for room in [1, 31, 32, 33] {
         let (bag, mut pass) = alone(rt.alloc(), 2, room)?;
         for item in 0..2 * room {
-            assert_eq!(rt; bag.try_add(&mut pass, u64::from(item)), Ok(()));
+            assert_eq!(rt; add_again(&bag, &mut pass, u64::from(item)), Ok(()));
         }
         assert_eq!(rt; bag.try_add(&mut pass, 9), Err(AddFault::Full));
         for _ in 0..2 * room {
             assert!(rt; matches!(bag.try_remove(&mut pass), Ok(Some(_))));
         }
         assert_eq!(rt; bag.try_remove(&mut pass), Ok(None));
+    }
+    Ok(())
+}
+
+#[test]
+fn what_wanted_memory_can_be_done_once_more(rt: HostRuntime) -> Result<(), Fail> {
+    let (bag, mut pass) = alone(rt.alloc(), 2, 33)?;
+    for item in 0..66 {
+        assert_eq!(rt; add_again(&bag, &mut pass, item), Ok(()));
+    }
+    assert_eq!(rt; add_again(&bag, &mut pass, 66), Err(AddFault::Full));
+    let mut items = close_alone(rt.alloc(), bag, pass)?;
+    items.sort_unstable();
+    assert_eq!(rt; items.len(), 66);
+    for (place, item) in items.iter().enumerate() {
+        assert_eq!(rt; *item, place as u64);
     }
     Ok(())
 }

@@ -47,3 +47,8 @@ returns-clause-ok g c =
     closes_as_handed_in c.args.self c.args.passes.items _ looked (g.K.Keeps.keeps c.args.self.table.shared.key.keeper) _
     (closes (g.K.Keeps.keeps c.args.self.table.shared.key.keeper) c.args.self _ _ _ c.gather-seat.result.me.0 _ _ _ c.close_with-closed.ensures.values.2 v.0 v.1 c.gather-seat.ensures.gathered
     (still_of_all_callers c.args.self c.args.passes.items _ looked c.requires.all) segments c.read_segments-items.ensures)
+
+pub returns-in_default-clause-again : goal.returns-in_default-clause-again
+returns-in_default-clause-again g c =
+    let looked = looked_back c.args.passes.len c.args.passes.items c.as_mut_slice.result.now c.most_items-most.new.passes (omega (arith, c.args.passes.ok.0)) c.as_mut_slice.ensures.value c.most_items-most.ensures.looked in
+    (still_of_opening c.args.self c.args.passes.items _ looked c.requires.opening, still_of_all_callers c.args.self c.args.passes.items _ looked c.requires.all)
