@@ -69,7 +69,9 @@ fn work<R: Wait>(rt: &R, bag: &Bag<AnyItem>, worker: &mut Worker)
     }
     for _ in 0..*removals {
         let item = remove_until_found(rt, bag, pass);
-        let _ = removed.push(item);
+        if removed.push(item).is_err() {
+            let _ = removed.push(item);
+        }
     }
 }
 
