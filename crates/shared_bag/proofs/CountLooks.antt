@@ -34,7 +34,11 @@ all_of P [] x all has = absurd (omega (arith, has.1))
 all_of P (y ∷ xs) x all (zero, below, is) = subst P is (all zero y (omega arith))
 all_of P (y ∷ xs) x all (suc k, below, is) = all_of P xs x (λ j d within. all (suc j) d (omega arith)) (k, omega arith, is)
 
-all_one : {A : Type 0} (P : A → Type 0) (x : A) → P x → All P (x ∷ [])
+pub all_cons : {A : Type 0} (P : A → Type 0) (a : A) (l : List A) → P a → All P l → All P (a ∷ l)
+all_cons P a l p all zero d below = p
+all_cons P a l p all (suc k) d below = all k d (omega arith)
+
+pub all_one : {A : Type 0} (P : A → Type 0) (x : A) → P x → All P (x ∷ [])
 all_one P x p zero d within = p
 all_one P x p (suc k) d within = absurd (omega arith)
 

@@ -30,7 +30,7 @@ use Rattle.shared_bag.specs.Steps.{reading, count_read, entry, Acts, CountsUp, C
 use Rattle.shared_bag.proofs.Places.{turn_in-set_count, count-set}
 use Rattle.shared_bag.proofs.Items.{put, put_here, put_else, one_more, one_fewer, count_more, items_short, leaves_added, leaves_taken}
 use Rattle.shared_bag.proofs.Seats.{adds, kept_step, caller_fits, caller_knows, caller_after, plan_after}
-use Rattle.shared_bag.proofs.CountLooks.{log_more, below_callers, of_callers}
+use Rattle.shared_bag.proofs.CountLooks.{all_one, log_more, below_callers, of_callers}
 
 -- the last of a list that all fits
 last_of : (P : ℕ → Type 0) (others : List ℕ) (item : ℕ) → All P (others ++ item ∷ []) → P item
@@ -41,10 +41,6 @@ but_last : (P : ℕ → Type 0) (others : List ℕ) (item : ℕ) → All P (othe
 but_last P [] item all k d within = absurd (omega arith)
 but_last P (x ∷ xs) item all zero d within = all zero d (omega arith)
 but_last P (x ∷ xs) item all (suc k) d within = but_last P xs item (λ j e below. all (suc j) e (omega arith)) k d (omega arith)
-
-one_item : (P : ℕ → Type 0) (item : ℕ) → P item → All P (item ∷ [])
-one_item P item p zero d within = p
-one_item P item p (suc k) d within = absurd (omega arith)
 
 -- at most 1024 segments
 pub few_segments : (shape : Shape) → IsShape shape → all_segments shape ≤ 1024
@@ -145,7 +141,7 @@ module _ {K : Type 0} (keeps : ℕ → Type 0) (plan : Plan K) (s : State (Optio
       let short : length items' ≤ plan.shape.room = omega (arith, length-append v.held (item ∷ [])) in
       let own' : k / plan.shape.segments ≡ c % plan.shape.locales = subst (λ x. IsOwn x c k) knows.0 own in
       let unused : kept.made ≤ k / plan.shape.segments → items' ≡ [] = λ past. absurd (let below = fits.below in let low : c % plan.shape.locales ≤ c = mod-le c plan.shape.locales in omega arith) in
-      let all : All keeps items' = All-append keeps v.held (item ∷ []) (subst (All keeps) (sym at.1) fits'.kept) (one_item keeps item wants) in (
+      let all : All keeps items' = All-append keeps v.held (item ∷ []) (subst (All keeps) (sym at.1) fits'.kept) (all_one keeps item wants) in (
         record (reading v (count_read (slice_index s.words 0))) { mine = v.mine ++ e ∷ []; seen = h ++ e ∷ []; stage = Counted; held = items'; found = [] },
         count_step id v items' ((slice_index s.words 0 + 1) % 2 ^ 64) e here role none refl wants at short unused all leaves (sum ∙ (ap (λ x. x + 1) kept.count ∙ sym long)),
         record { acts = acts_by id v items' (Add item) Added here role wants leaves; counted = refl; named = refl; held = refl },

@@ -7,7 +7,7 @@ use Rattle.shared_bag.specs.declared.passes.BagPass.{BagPass}
 use Rattle.shared_bag.specs.declared.views.View.{View}
 use Rattle.shared_bag.specs.Steps.{joining}
 use Rattle.shared_bag.specs.Closings.{Gathered}
-use Rattle.shared_bag.proofs.PassJoins.{all_cons}
+use Rattle.shared_bag.proofs.CountLooks.{all_cons}
 
 -- what holds of each element holds of one in the middle
 pub all_mid : {A : Type 0} (P : A → Type 0) (xs : List A) (a : A) (ys : List A) → All P (xs ++ a ∷ ys) → P a

@@ -1,5 +1,5 @@
--- One caller's pass takes in another's, when the deque is closed.
-use Rattle.std.proofs.Common.{◌≡◌, ◌≢◌, ℕ, zero, suc, List, ◌∷◌, set, get_or, refl, ap, sym, ◌∙◌, subst, arith, ⊎_elim}
+-- One caller's pass takes in another's, when the bag is closed.
+use Rattle.std.proofs.Common.{◌≡◌, ◌≢◌, ℕ, List, set, get_or, refl, ap, sym, ◌∙◌, subst, ⊎_elim}
 use Rattle.std.specs.List.{All}
 use mathlib.Core.Option.{some}
 use lib.ListN.{get_elem?}
@@ -17,11 +17,8 @@ use Rattle.shared_bag.specs.Rule.{IsAt, HasNoSegment, JoinedFits, FitsAs, KnowsP
 use Rattle.shared_bag.specs.Steps.{joining, spent}
 use Rattle.shared_bag.proofs.Items.{put, put_here, put_else}
 use Rattle.shared_bag.proofs.Seats.{caller_fits, caller_knows, plan_after}
+use Rattle.shared_bag.proofs.CountLooks.{all_cons}
 use Rattle.shared_bag.proofs.NoteSteps.{reseated}
-
-pub all_cons : {A : Type 0} (P : A → Type 0) (a : A) (l : List A) → P a → All P l → All P (a ∷ l)
-all_cons P a l p all zero d below = p
-all_cons P a l p all (suc k) d below = all k d (omega arith)
 
 module _ (turn : ℕ → ℕ) (has : ℕ → List ℕ) (made : ℕ) (seat : ℕ → ℕ) (h : List BagEntry) (c id other : ℕ) where
   -- a caller in another seat than the one that is spent has the seat that it had

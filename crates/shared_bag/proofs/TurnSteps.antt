@@ -1,5 +1,5 @@
 -- The steps on a segment's turn: the claim, which takes the segment out, and the leave, which gives it back.
-use Rattle.std.proofs.Common.{◌≡◌, ◌≢◌, ℕ, zero, suc, ◌+◌, ◌-◌, ◌<◌, ◌≤◌, ◌==◌, Bool, true, false, List, [], ◌∷◌, length, set, refl, ap, sym, ◌∙◌, subst, arith, inl, inr, length-set, Option, Some}
+use Rattle.std.proofs.Common.{◌≡◌, ◌≢◌, ℕ, ◌+◌, ◌-◌, ◌<◌, ◌≤◌, ◌==◌, Bool, true, false, List, [], ◌∷◌, length, set, refl, ap, sym, ◌∙◌, subst, arith, inl, inr, length-set, Option, Some}
 use Rattle.std.specs.Prelude.{MatchBool}
 use Rattle.std.specs.List.{All}
 use Rattle.std.proofs.lemmas.Bool.Decides.{nat_tests}
@@ -29,12 +29,8 @@ use Rattle.shared_bag.specs.Steps.{reading, turn_read, length_read, GetsTurn, Fi
 use Rattle.shared_bag.proofs.Places.{count-set_turn, turn_in-set_turn, turn_in-set_other}
 use Rattle.shared_bag.proofs.Items.{segment_short}
 use Rattle.shared_bag.proofs.Seats.{stays, kept_step, caller_fits, caller_knows, caller_after, plan_after}
-use Rattle.shared_bag.proofs.CountLooks.{load_step, below_callers, of_callers, made_alone}
+use Rattle.shared_bag.proofs.CountLooks.{all_cons, load_step, below_callers, of_callers, made_alone}
 use Rattle.shared_bag.proofs.Alone.{alone_full, alone_whole_room}
-
-all_cons : {A : Type 0} (P : A → Type 0) (a : A) (l : List A) → P a → All P l → All P (a ∷ l)
-all_cons P a l p all zero d below = p
-all_cons P a l p all (suc k) d below = all k d (omega arith)
 
 module _ {K : Type 0} (keeps : ℕ → Type 0) (plan : Plan K) (s : State (Option Contents) (View K)) (kept : Kept keeps plan s) where
   turn_within : (segment : ℕ) → segment < all_segments plan.shape → turn_place segment < length s.words

@@ -43,7 +43,7 @@ pub record HasLooked {K : Type 0} (old new : BagPass K) (count : ℕ) : Type 0 w
   pub looked : looked new ≡ looked old ++ count_read count ∷ []
   pub counts : Counts (page new).seen count
 
--- each pass has looked at the count once, and all else of it is as it was
+-- the same passes in the same order, with each of which the count was looked at once
 pub record HaveLooked {K : Type 0} (old new : List (BagPass K)) : Type 0 where
   pub many : length new ≡ length old
   pub each : (k : ℕ) (p q : BagPass K) → slice_get old k ≡ Some p → slice_get new k ≡ Some q → (count : ℕ) × HasLooked p q count

@@ -129,7 +129,7 @@ fn close_again(back: BagBack<AnyItem>) -> Result<Vec<u64>, Fail>
     }
 }
 
-// Each caller with its pass: the first ones push, the others pop.
+// Each caller with its pass: the first ones add, the others remove.
 fn workers_of(
     alloc: Global,
     bag: &Bag<AnyItem>,
@@ -185,9 +185,9 @@ fn all_removed(alloc: Global, workers: &[Worker]) -> Result<Vec<u64>, AllocError
 // All items that are added, in order of their numbers.
 fn all_added(alloc: Global, adders: u64, each: u64) -> Result<Vec<u64>, AllocError> {
     let mut all = Vec::new(alloc);
-    for pusher in 0..adders {
+    for adder in 0..adders {
         for number in 0..each {
-            all.push(pusher.wrapping_mul(STRIDE).wrapping_add(number))?;
+            all.push(adder.wrapping_mul(STRIDE).wrapping_add(number))?;
         }
     }
     Ok(all)
