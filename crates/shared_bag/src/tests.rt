@@ -196,23 +196,29 @@ fn all_added(alloc: Global, adders: u64, each: u64) -> Result<Vec<u64>, AllocErr
 // Opens a bag of one caller, and once more where memory was refused.
 fn open_again(
     alloc: Global,
+    locales: u8,
     segments: u32,
     room: u32,
 ) -> Result<(Bag<AnyItem>, Vec<BagPass<AnyItem>>), BagFault>
     ensures passes { IfOk result (λ r. ArePassesOf r.0 r.1.items × (length r.1.items ≡ 1)) }
     ensures alone { IfOk result (λ r. callers_of r.0 ≡ 1) }
 {
-    match Bag::open(alloc, 1, segments, room, 1, AnyItem) {
+    match Bag::open(alloc, locales, segments, room, 1, AnyItem) {
         Ok(opened) => Ok(opened),
-        Err(_) => Bag::open(alloc, 1, segments, room, 1, AnyItem),
+        Err(_) => Bag::open(alloc, locales, segments, room, 1, AnyItem),
     }
 }
 
 // A bag of one caller, and its pass.
-fn alone(alloc: Global, segments: u32, room: u32) -> Result<(Bag<AnyItem>, BagPass<AnyItem>), Fail>
+fn alone(
+    alloc: Global,
+    locales: u8,
+    segments: u32,
+    room: u32,
+) -> Result<(Bag<AnyItem>, BagPass<AnyItem>), Fail>
     ensures { IfOk result (λ r. (pass_opening r.1 ≡ opening_of r.0) × (callers_of r.0 ≡ 1) × (caller_of r.1 ≡ 0)) }
 {
-    let (bag, mut passes) = open_again(alloc, segments, room)?;
+    let (bag, mut passes) = open_again(alloc, locales, segments, room)?;
     let Some(pass) = passes.pop() else {
         return Err("there is no pass".into());
     };
@@ -232,7 +238,7 @@ fn add_again(bag: &Bag<AnyItem>, pass: &mut BagPass<AnyItem>, item: u64) -> Resu
 
 #[test]
 fn one_segment_is_filled_and_gives_its_newest(rt: HostRuntime) -> Result<(), Fail> {
-    let (bag, mut pass) = alone(rt.alloc(), 1, 2)?;
+    let (bag, mut pass) = alone(rt.alloc(), 1, 1, 2)?;
     crosses(&bag);
     moves(&pass);
     assert_eq!(rt; add_again(&bag, &mut pass, 5), Ok(()));
@@ -249,7 +255,7 @@ fn one_segment_is_filled_and_gives_its_newest(rt: HostRuntime) -> Result<(), Fai
 #[test]
 fn rooms_at_the_borders_of_blocks_are_filled(rt: HostRuntime) -> Result<(), Fail> {
     for room in [1, 31, 32, 33] {
-        let (bag, mut pass) = alone(rt.alloc(), 2, room)?;
+        let (bag, mut pass) = alone(rt.alloc(), 1, 2, room)?;
         for item in 0..2 * room {
             assert_eq!(rt; add_again(&bag, &mut pass, u64::from(item)), Ok(()));
         }
@@ -264,7 +270,7 @@ fn rooms_at_the_borders_of_blocks_are_filled(rt: HostRuntime) -> Result<(), Fail
 
 #[test]
 fn what_wanted_memory_can_be_done_once_more(rt: HostRuntime) -> Result<(), Fail> {
-    let (bag, mut pass) = alone(rt.alloc(), 2, 33)?;
+    let (bag, mut pass) = alone(rt.alloc(), 1, 2, 33)?;
     for item in 0..66 {
         assert_eq!(rt; add_again(&bag, &mut pass, item), Ok(()));
     }
@@ -275,6 +281,17 @@ fn what_wanted_memory_can_be_done_once_more(rt: HostRuntime) -> Result<(), Fail>
     for (place, item) in items.iter().enumerate() {
         assert_eq!(rt; *item, place as u64);
     }
+    Ok(())
+}
+
+#[test]
+fn a_bag_with_the_most_room_is_closed(rt: HostRuntime) -> Result<(), Fail> {
+    let (bag, mut pass) = alone(rt.alloc(), 16, 64, 1 << 24)?;
+    assert_eq!(rt; add_again(&bag, &mut pass, 5), Ok(()));
+    assert_eq!(rt;
+        close_alone(rt.alloc(), bag, pass)?.as_slice(),
+        [5].as_slice()
+    );
     Ok(())
 }
 
