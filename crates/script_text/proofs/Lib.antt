@@ -1,3 +1,4 @@
+pub mod Leading
 pub mod Live
 pub mod OneAnswer
 pub mod OneReading

@@ -1,5 +1,5 @@
 -- Where bytes lead within a line, and what a line that ends says.
-use Rattle.std.proofs.Common.{◌≡◌, ◌≢◌, ℕ, ◌+◌, ◌*◌, ◌<◌, ◌≤◌, Bool, true, ◌==◌, ◌&&◌, ◌||◌, nat_lt, nat_le, if◌then◌else◌, List, [], ◌∷◌, ◌++◌, length, take, drop, get_or, Option, Some, None, MatchOption, refl, ap, sym, ◌∙◌, subst, arith, inl, inr, append-nil, append_assoc, length-append, take-append-drop}
+use Rattle.std.proofs.Common.{◌≡◌, ◌≢◌, ℕ, ◌+◌, ◌*◌, ◌<◌, ◌≤◌, Bool, true, false, ◌==◌, ◌&&◌, ◌||◌, nat_lt, nat_le, if◌then◌else◌, List, [], ◌∷◌, ◌++◌, length, take, drop, get_or, Option, Some, None, MatchOption, MatchBool, refl, ap, sym, ◌∙◌, subst, arith, inl, inr, append-nil, append_assoc, length-append, take-append-drop}
 use Rattle.std.specs.Char.{digit_value}
 use Rattle.std.specs.Str.Parse.{AllDigits, digits_value_after}
 use Rattle.std.proofs.lemmas.Bool.{false≢true, and_parts, and_from, or_left, or_right, le-leb, leb-true, lt-ltb, ltb-true}
@@ -97,7 +97,7 @@ lead_stops choice byte letter other stops rest (Some line) follows = stops rest 
 -- ---- words
 
 -- the bytes behind the front of a word begin with a letter of it
-word_step : (choice : Choice) (front : List ℕ) (byte : ℕ) (rest : List ℕ) (line : Line) → IsLetter byte → WordGoesOn choice front (byte ∷ rest) line → WordGoesOn choice (front ++ byte ∷ []) rest line
+pub word_step : (choice : Choice) (front : List ℕ) (byte : ℕ) (rest : List ℕ) (line : Line) → IsLetter byte → WordGoesOn choice front (byte ∷ rest) line → WordGoesOn choice (front ++ byte ∷ []) rest line
 word_step choice front byte rest line letter goes = stepped goes.more goes.behind goes.whole goes.parts goes.ends goes.follows
   where
     stepped : (more behind : List ℕ) → text goes.word ≡ front ++ more → byte ∷ rest ≡ more ++ behind → EndsWord behind → Follows goes.next behind line → WordGoesOn choice (front ++ byte ∷ []) rest line
@@ -115,7 +115,7 @@ word_step choice front byte rest line letter goes = stepped goes.more goes.behin
       follows = follows;
     }
 
-word_unstep : (choice : Choice) (front : List ℕ) (byte : ℕ) (rest : List ℕ) (line : Line) → WordGoesOn choice (front ++ byte ∷ []) rest line → WordGoesOn choice front (byte ∷ rest) line
+pub word_unstep : (choice : Choice) (front : List ℕ) (byte : ℕ) (rest : List ℕ) (line : Line) → WordGoesOn choice (front ++ byte ∷ []) rest line → WordGoesOn choice front (byte ∷ rest) line
 word_unstep choice front byte rest line goes = record {
   word = goes.word;
   next = goes.next;
@@ -448,10 +448,10 @@ pub number_ends_short : (slot : Slot) (value : ℕ) → value < least slot → E
 number_ends_short slot value short None never = never
 number_ends_short slot value short (Some line) goes = omega (arith, short, (number_done slot value [] line tt goes).0.0)
 
-pub lead_alike : (choice : Choice) (byte : ℕ) → (is_blank byte ≢ true) → byte ≢ 35 → (answer : Option Place) → MatchOption answer (IsStop (Gap (Word choice)) byte) (λ next. LeadsTo (Gap (Word choice)) byte next)
-    → MatchOption answer (IsStop (Lead choice) byte) (λ next. LeadsTo (Lead choice) byte next)
-lead_alike choice byte letter other None stops = lead_stops choice byte letter other stops
-lead_alike choice byte letter other (Some next) leads = lead_letter choice byte next letter other leads
+pub lead_alike : (choice : Choice) (byte : ℕ) (next : Place) → (is_blank byte ≢ true) → byte ≢ 35 → (answer : Bool) → MatchBool answer (LeadsTo (Gap (Word choice)) byte next) (IsStop (Gap (Word choice)) byte)
+    → MatchBool answer (LeadsTo (Lead choice) byte next) (IsStop (Lead choice) byte)
+lead_alike choice byte next letter other false stops = lead_stops choice byte letter other stops
+lead_alike choice byte next letter other true leads = lead_letter choice byte next letter other leads
 
 pub open_most : (slot : Slot) (value : ℕ) → is_open slot value ≡ true → value ≤ most slot
 open_most slot value opens = leb-true value (most slot) (and_parts (nat_le value (most slot)) (value == 0 || (nat_le (least slot) value || nat_le (value * 10) (most slot))) opens).0
@@ -492,9 +492,11 @@ others_among choice front (first ∷ words) word others (inr among) next may beg
 pub begins_none : (choice : Choice) (front : List ℕ) → AreOthers choice front (words choice) → BeginsNone choice front
 begins_none choice front others word next may begins = others_among choice front (words choice) word others (listed choice word next may) next may begins
 
--- what a word without its front begins with
-pub begins_behind : (word front rest : List ℕ) (byte : ℕ) → word ≡ front ++ rest → (Begins rest (byte ∷ []) → Begins word (front ++ byte ∷ [])) × (Begins word (front ++ byte ∷ []) → Begins rest (byte ∷ []))
-begins_behind word front rest byte is = (
-  λ begins. (begins.0, is ∙ (ap (λ (r : List ℕ). front ++ r) begins.1 ∙ sym (append_assoc front (byte ∷ []) begins.0))),
-  λ begins. (begins.0, append_cancel_left front rest (byte ∷ begins.0) (sym is ∙ (begins.1 ∙ append_assoc front (byte ∷ []) begins.0))),
+-- ---- how a word begins
+
+pub begins_front : (word front : List ℕ) (byte : ℕ) → length front < length word → get_or word (length front) 0 ≡ byte → word ≡ front ++ drop (length front) word → Begins word (front ++ byte ∷ [])
+begins_front word front byte within is whole = (
+  drop (length front + 1) word,
+  whole ∙ (ap (λ (t : List ℕ). front ++ t) (drop_more word (length front) 0 within)
+      ∙ (ap (λ b. front ++ b ∷ drop (length front + 1) word) is ∙ sym (append_assoc front (byte ∷ []) (drop (length front + 1) word)))),
 )

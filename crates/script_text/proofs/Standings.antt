@@ -1,7 +1,8 @@
 -- Where a reader stands, byte after byte and line after line.
-use Rattle.std.proofs.Common.{◌≡◌, ◌≢◌, ◌↔◌, ℕ, ◌+◌, ◌<◌, ◌≤◌, ◌^◌, Bool, false, IsTrue, List, [], ◌∷◌, ◌++◌, length, map, slice_index_or, slice_set, get_or, Vec, Global, Option, Some, None, Result, Ok, Err, IfOk, OnOk, MatchResult, refl, ap, sym, ◌∙◌, subst, arith, inl, inr, append-nil, append_assoc, length-append, length-set, take, drop, take-append-drop}
+use Rattle.std.proofs.Common.{◌≡◌, ◌≢◌, ◌↔◌, ℕ, ◌+◌, ◌-◌, ◌<◌, ◌≤◌, ◌^◌, Bool, true, false, IsTrue, List, [], ◌∷◌, ◌++◌, length, map, slice_index_or, slice_set, get_or, Vec, Global, Option, Some, None, Result, Ok, Err, IfOk, OnOk, MatchResult, refl, ap, sym, ◌∙◌, subst, arith, inl, inr, append-nil, append_assoc, length-append, length-set, length-drop, take, drop, take-append-drop}
 use Rattle.std.proofs.lemmas.Bool.{false≢true}
-use Rattle.std.proofs.lemmas.List.{length_push, map-set, get_or-map, length-replicate, drop_more}
+use Rattle.std.proofs.Math.Seq.{take-add}
+use Rattle.std.proofs.lemmas.List.{length_push, map-set, get_or-map, length-replicate, drop_more, take_more, take_all}
 use Rattle.std.proofs.lemmas.List.Sums.{sum_by-append}
 use Rattle.std.proofs.lemmas.Option.{none-some, same_Some}
 use Rattle.script_text.specs.declared.scripts.ObjectLine.{ObjectLine}
@@ -19,40 +20,53 @@ use Rattle.script_text.specs.declared.bytes.Reached.{Reached}
 use Rattle.script_text.specs.declared.bytes.Reached.TheVariants.{Within, End}
 use Rattle.script_text.specs.Grammar.{choice_at, IsStage}
 use Rattle.script_text.specs.Lines.{MayCome, IsLine, stage_after, line_tokens}
-use Rattle.script_text.specs.Places.{Completes, IsPlace, IsStop, LeadsTo, EndsEarly, EndsSaying}
+use Rattle.script_text.specs.Places.{Completes, IsPlace, IsStop, LeadsBy, EndsEarly, EndsSaying}
 use Rattle.script_text.specs.ScriptText.{Progress, beginning, AreLines, after, caller_at, with_call, calls_after, counts, IsOpen, IsBadByte, IsLastCause, NamesLine}
-use Rattle.script_text.specs.Standing.{progress_of, HasLists, IsDraft, HasTaken, HasSaid, IsTakeFault, IsStanding, PartLeads, Stands, HasReached, IsFaultAt, StaysStanding, IsEndAt, Stop, HasReachedWithin, IsFaultWithin, HasReachedBehind, IsFaultBehind}
+use Rattle.script_text.specs.Standing.{progress_of, HasLists, IsDraft, HasTaken, HasSaid, IsTakeFault, IsStanding, PartLeads, Stands, HasReached, reached, IsFaultAt, StaysStanding, IsEndAt, Stop, HasReachedWithin, IsFaultWithin, HasReachedBehind, IsFaultBehind}
 use Rattle.script_text.specs.Words.{IsSpelled}
 use Rattle.script_text.proofs.Live.{can_end}
 use Rattle.script_text.proofs.Tables.{line_said, line_makes, stage_choice}
 
--- ---- a byte within a line
+-- ---- bytes within a line
 
-part_on : (stage : Stage) (part : List ℕ) (byte : ℕ) (place next : Place) → PartLeads stage part place → LeadsTo place byte next → PartLeads stage (part ++ byte ∷ []) next
-part_on stage part byte place next leads step rest says =
-    let joined = append_assoc part (byte ∷ []) rest in (
-      λ is. (step rest says).0 ((leads (byte ∷ rest) says).0 (subst (λ (l : List ℕ). IsLine stage l says) joined is)),
-      λ completes. subst (λ (l : List ℕ). IsLine stage l says) (sym joined) ((leads (byte ∷ rest) says).1 ((step rest says).1 completes)),
+part_on : (stage : Stage) (part bytes : List ℕ) (place next : Place) → PartLeads stage part place → LeadsBy place bytes next → PartLeads stage (part ++ bytes) next
+part_on stage part bytes place next leads step rest says =
+    let joined = append_assoc part bytes rest in (
+      λ is. (step rest says).0 ((leads (bytes ++ rest) says).0 (subst (λ (l : List ℕ). IsLine stage l says) joined is)),
+      λ completes. subst (λ (l : List ℕ). IsLine stage l says) (sym joined) ((leads (bytes ++ rest) says).1 ((step rest says).1 completes)),
     )
 
-pub stands_byte : (read : List ℕ) (draft : Draft) (place next : Place) (byte : ℕ) → LeadsTo place byte next → Stands read draft place → Stands (read ++ byte ∷ []) draft next
-stands_byte read draft place next byte step stands = record {
+pub stands_by : (read bytes : List ℕ) (draft : Draft) (place next : Place) → LeadsBy place bytes next → Stands read draft place → Stands (read ++ bytes) draft next
+stands_by read bytes draft place next step stands = record {
   lines = stands.lines;
   says = stands.says;
-  part = stands.part ++ byte ∷ [];
+  part = stands.part ++ bytes;
   are_lines = stands.are_lines;
-  leads = part_on draft.stage stands.part byte place next stands.leads step;
-  whole = ap (λ (r : List ℕ). r ++ byte ∷ []) stands.whole ∙ append_assoc stands.lines stands.part (byte ∷ []);
+  leads = part_on draft.stage stands.part bytes place next stands.leads step;
+  whole = ap (λ (r : List ℕ). r ++ bytes) stands.whole ∙ append_assoc stands.lines stands.part bytes;
   counted = stands.counted;
   line = stands.line;
 }
 
-pub standing_byte : (draft : Draft) (place next : Place) (byte : ℕ) → IsStanding draft place → IsPlace next → LeadsTo place byte next → IsStanding draft next
-standing_byte draft place next byte standing is step = record {
+pub standing_by : (bytes : List ℕ) (draft : Draft) (place next : Place) → IsStanding draft place → IsPlace next → LeadsBy place bytes next → IsStanding draft next
+standing_by bytes draft place next standing is step = record {
   placed = is;
   drafted = standing.drafted;
-  fits = λ rest line completes. standing.fits (byte ∷ rest) line ((step rest (Some line)).1 completes);
+  fits = λ rest line completes. standing.fits (bytes ++ rest) line ((step rest (Some line)).1 completes);
 }
+
+-- a byte of a piece, and a run behind it
+pub stands_run : (read piece : List ℕ) (at count : ℕ) (draft : Draft) (place next : Place) → at < length piece → Stands ((read ++ take at piece) ++ get_or piece at 0 ∷ []) draft place
+    → LeadsBy place (take count (take (length piece - (at + 1)) (drop (at + 1) piece))) next → Stands (read ++ take (at + 1 + count) piece) draft next
+stands_run read piece at count draft place next within stands step =
+    let behind = drop (at + 1) piece in
+    let all = take_all (length piece - (at + 1)) behind (omega (arith, length-drop (at + 1) piece)) in
+    let run = take count (take (length piece - (at + 1)) behind) in
+    let first : (read ++ take at piece) ++ get_or piece at 0 ∷ [] ≡ read ++ take (at + 1) piece =
+    append_assoc read (take at piece) (get_or piece at 0 ∷ []) ∙ ap (λ (p : List ℕ). read ++ p) (sym (take_more piece at 0 within)) in
+    let joined : (read ++ take (at + 1) piece) ++ run ≡ read ++ take (at + 1 + count) piece =
+    append_assoc read (take (at + 1) piece) run ∙ ap (λ (p : List ℕ). read ++ p) (ap (λ (l : List ℕ). take (at + 1) piece ++ take count l) all ∙ sym (take-add (at + 1) count piece)) in
+    subst (λ (r : List ℕ). Stands r draft next) joined (stands_by (read ++ take (at + 1) piece) run draft place next step (subst (λ (r : List ℕ). Stands r draft place) first stands))
 
 pub bad_byte : (stage : Stage) (part : List ℕ) (place : Place) (byte : ℕ) → byte ≢ 10 → IsStop place byte → PartLeads stage part place → IsBadByte stage part byte
 bad_byte stage part place byte within stop leads =
@@ -152,33 +166,31 @@ take_fault draft part line fault (inl memory) is = subst (λ (f : ScriptFault). 
 take_fault draft part line fault (inr many) is = subst (λ (f : ScriptFault). IsFaultAt draft part 10 f) (sym many.0) (refl, (refl, many.1, Some line, many.2, is))
 
 -- what the end of a line gives
-pub record LineGives (old new : Draft) (place : Place) (answer : Result Reached ScriptFault) : Type 0 where
-  pub standing : IfOk answer (λ reached. StaysStanding new reached)
+pub record LineGives (old new : Draft) (place next : Place) (answer : Result Bool ScriptFault) : Type 0 where
+  pub standing : IfOk answer (λ ended. StaysStanding new (reached ended next))
   pub lines : OnOk answer (new.line ≤ old.line + 1)
-  pub led : (read : List ℕ) (stands : Stands read old place) → MatchResult answer (λ reached. HasReached read old new stands.part 10 reached) (λ fault. IsFaultAt old stands.part 10 fault)
+  pub led : (read : List ℕ) (stands : Stands read old place) → MatchResult answer (λ ended. HasReached read old new stands.part 10 (reached ended next)) (λ fault. IsFaultAt old stands.part 10 fault)
 
-taken_gives : (old new : Draft) (place : Place) (says : Option Line) (reached : Reached) → Completes place [] says → says ≢ Some EndLine → reached ≡ Within (Lead (choice_at new.stage)) → HasTaken old new says
-    → LineGives old new place (Ok reached)
-taken_gives old new place says reached completes other is taken =
-    subst (λ (r : Reached). LineGives old new place (Ok r)) (sym is)
+taken_gives : (old new : Draft) (place next : Place) (says : Option Line) → Completes place [] says → says ≢ Some EndLine → next ≡ Lead (choice_at new.stage) → HasTaken old new says → LineGives old new place next (Ok false)
+taken_gives old new place next says completes other is taken =
+    subst (λ (p : Place). LineGives old new place p (Ok false)) (sym is)
     (record { standing = standing_lead new taken.drafted; lines = omega (arith, taken.line); led = λ read stands. stands_line read old new place says completes other taken stands })
 
-pub skipped_gives : (old new : Draft) (place : Place) (reached : Reached) → EndsSaying place None → reached ≡ Within (Lead (choice_at new.stage)) → HasTaken old new None → LineGives old new place (Ok reached)
-skipped_gives old new place reached ends is taken = taken_gives old new place None reached ends.0 (λ same. none-some EndLine same) is taken
+pub skipped_gives : (old new : Draft) (place next : Place) → EndsSaying place None → next ≡ Lead (choice_at new.stage) → HasTaken old new None → LineGives old new place next (Ok false)
+skipped_gives old new place next ends is taken = taken_gives old new place next None ends.0 (λ same. none-some EndLine same) is taken
 
-ended_gives : (old new : Draft) (place : Place) (line : Line) → EndsSaying place (Some line) → line ≡ EndLine → new ≡ old → LineGives old new place (Ok End)
-ended_gives old new place line ends is same = record {
+ended_gives : (old new : Draft) (place next : Place) (line : Line) → EndsSaying place (Some line) → line ≡ EndLine → new ≡ old → LineGives old new place next (Ok true)
+ended_gives old new place next line ends is same = record {
   standing = tt;
   lines = omega (arith, ap (λ (d : Draft). d.line) same);
   led = λ read stands. ((refl, line_ended old.stage stands.part place (Some EndLine) (subst (λ (l : Line). Completes place [] (Some l)) is ends.0) stands.leads), same);
 }
 
-pub line_gives : (old new : Draft) (place : Place) (line : Line) (answer : Result Reached ScriptFault) → EndsSaying place (Some line)
-    → MatchResult answer (λ reached. HasSaid old new line reached) (λ fault. IsTakeFault old line fault) → LineGives old new place answer
-line_gives old new place line (Ok (Within next)) ends said =
-    taken_gives old new place (Some line) (Within next) ends.0 (λ same. said.2 (same_Some line EndLine same)) (ap (λ (p : Place). Within p) said.0) said.1
-line_gives old new place line (Ok End) ends said = ended_gives old new place line ends said.0 said.1
-line_gives old new place line (Err fault) ends took = record {
+pub line_gives : (old new : Draft) (place next : Place) (line : Line) (answer : Result Bool ScriptFault) → EndsSaying place (Some line)
+    → MatchResult answer (λ ended. HasSaid old new line (reached ended next)) (λ fault. IsTakeFault old line fault) → LineGives old new place next answer
+line_gives old new place next line (Ok false) ends said = taken_gives old new place next (Some line) ends.0 (λ same. said.2 (same_Some line EndLine same)) said.0 said.1
+line_gives old new place next line (Ok true) ends said = ended_gives old new place next line ends said.0 said.1
+line_gives old new place next line (Err fault) ends took = record {
   standing = tt;
   lines = tt;
   led = λ read stands. take_fault old stands.part line fault took (line_ended old.stage stands.part place (Some line) ends.0 stands.leads);

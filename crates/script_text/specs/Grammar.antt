@@ -1,5 +1,5 @@
 -- What stands next in a line, as far as it was read.
-use Rattle.std.specs.Prelude.{ℕ, ◌-◌, ◌*◌, ◌/◌, ◌≤◌, ◌^◌, ◌==◌, min, Bool, true, false, if◌then◌else◌, List, [], ◌∷◌, Option, Some, None, codes}
+use Rattle.std.specs.Prelude.{◌≡◌, ℕ, ◌-◌, ◌*◌, ◌/◌, ◌≤◌, ◌^◌, ◌==◌, min, Bool, true, false, if◌then◌else◌, List, [], ◌∷◌, Option, Some, None, codes}
 use Rattle.std.specs.Option.{option_or}
 use Rattle.seq_objects.specs.declared.lists.ListCall.TheVariants.{Read as ReadCall, Write as WriteCall, Swap as SwapCall, Add as AddCall, Grow as GrowCall, Len as LenCall}
 use Rattle.seq_objects.specs.declared.bags.BagCall.TheVariants.{Add as PutCall, Remove as RemoveCall}
@@ -18,6 +18,7 @@ use Rattle.script_text.specs.declared.grammar.Choice.{Choice}
 use Rattle.script_text.specs.declared.grammar.Choice.TheVariants.{Pgas as CPgas, One as COne, Object as CObject, Kind as CKind, Callers as CCallers, Silent, Spoken, Try as CTry}
 use Rattle.script_text.specs.declared.grammar.Slot.{Slot}
 use Rattle.script_text.specs.declared.grammar.Slot.TheVariants.{ListLocales, ListObjects, ListWidth, BagLocales, BagSegments, BagRoom, DequeLocales, DequeCapacity, Callers as SCallers, Caller as SCaller, ReadAt, WriteAt, WriteValue, SwapAt, SwapOld, SwapNew, AddAt, AddValue, GrowTo, BagAdd, PushBack as SPushBack, PushFront as SPushFront}
+use Rattle.script_text.specs.declared.grammar.Bounds.{Bounds}
 use Rattle.script_text.specs.declared.grammar.Expected.{Expected}
 use Rattle.script_text.specs.declared.grammar.Expected.TheVariants.{Word, Number, Nothing}
 
@@ -45,6 +46,18 @@ text PushFront = codes "push_front"
 text PopBack = codes "pop_back"
 text PopFront = codes "pop_front"
 
+-- the words that begin a line behind a `caller` line
+abbrev pub spoken_words : Kind → List Wording
+spoken_words KList = Read ∷ Write ∷ Swap ∷ Add ∷ Grow ∷ Len ∷ Round ∷ Caller ∷ End ∷ []
+spoken_words KBag = Add ∷ Remove ∷ Try ∷ Round ∷ Caller ∷ End ∷ []
+spoken_words KDeque = PushBack ∷ PushFront ∷ PopBack ∷ PopFront ∷ Try ∷ Round ∷ Caller ∷ End ∷ []
+
+-- the words that follow `try`
+abbrev pub tried_words : Kind → List Wording
+tried_words KList = []
+tried_words KBag = Add ∷ Remove ∷ []
+tried_words KDeque = PushBack ∷ PushFront ∷ PopBack ∷ PopFront ∷ []
+
 abbrev pub words : Choice → List Wording
 words CPgas = Pgas ∷ []
 words COne = One ∷ []
@@ -52,12 +65,8 @@ words CObject = Object ∷ []
 words CKind = WList ∷ WBag ∷ WDeque ∷ []
 words CCallers = Callers ∷ []
 words (Silent callers) = Caller ∷ Round ∷ End ∷ []
-words (Spoken KList callers) = Read ∷ Write ∷ Swap ∷ Add ∷ Grow ∷ Len ∷ Round ∷ Caller ∷ End ∷ []
-words (Spoken KBag callers) = Add ∷ Remove ∷ Try ∷ Round ∷ Caller ∷ End ∷ []
-words (Spoken KDeque callers) = PushBack ∷ PushFront ∷ PopBack ∷ PopFront ∷ Try ∷ Round ∷ Caller ∷ End ∷ []
-words (CTry KList) = []
-words (CTry KBag) = Add ∷ Remove ∷ []
-words (CTry KDeque) = PushBack ∷ PushFront ∷ PopBack ∷ PopFront ∷ []
+words (Spoken kind callers) = spoken_words kind
+words (CTry kind) = tried_words kind
 
 abbrev pub list_word : Wording → Option Expected
 list_word Read = Some (Number ReadAt)
@@ -90,6 +99,18 @@ round_word callers Round = Some (Nothing RoundLine)
 round_word callers End = Some (Nothing EndLine)
 round_word callers word = None
 
+-- what stands behind a word that begins a line
+abbrev pub spoken_word : Kind → ℕ → Wording → Option Expected
+spoken_word KList callers word = option_or (list_word word) (round_word callers word)
+spoken_word KBag callers word = option_or (option_or (bag_word false word) (try_word KBag callers word)) (round_word callers word)
+spoken_word KDeque callers word = option_or (option_or (deque_word false word) (try_word KDeque callers word)) (round_word callers word)
+
+-- what stands behind a word that follows `try`
+abbrev pub tried_word : Kind → Wording → Option Expected
+tried_word KList word = None
+tried_word KBag word = bag_word true word
+tried_word KDeque word = deque_word true word
+
 -- what stands behind a word, if it is one of these
 abbrev pub word_after : Choice → Wording → Option Expected
 word_after CPgas Pgas = Some (Word COne)
@@ -100,11 +121,8 @@ word_after CKind WBag = Some (Number BagLocales)
 word_after CKind WDeque = Some (Number DequeLocales)
 word_after CCallers Callers = Some (Number SCallers)
 word_after (Silent callers) word = round_word callers word
-word_after (Spoken KList callers) word = option_or (list_word word) (round_word callers word)
-word_after (Spoken KBag callers) word = option_or (option_or (bag_word false word) (try_word KBag callers word)) (round_word callers word)
-word_after (Spoken KDeque callers) word = option_or (option_or (deque_word false word) (try_word KDeque callers word)) (round_word callers word)
-word_after (CTry KBag) word = bag_word true word
-word_after (CTry KDeque) word = deque_word true word
+word_after (Spoken kind callers) word = spoken_word kind callers word
+word_after (CTry kind) word = tried_word kind word
 word_after choice word = None
 
 abbrev pub kind_of : ObjectLine → Kind
@@ -145,6 +163,9 @@ most (DequeCapacity locales) = 2 ^ 24
 most SCallers = 1
 most (SCaller callers) = callers - 1
 most slot = 2 ^ 64 - 1
+
+abbrev pub AreBounds : Slot → Bounds → Type 0
+AreBounds slot bounds = (bounds.least ≡ least slot) × (bounds.most ≡ most slot)
 
 abbrev pub InRange : Slot → ℕ → Type 0
 InRange slot number = (least slot ≤ number) × (number ≤ most slot)

@@ -68,6 +68,11 @@ abbrev pub LeadsTo : Place → ℕ → Place → Type 0
 LeadsTo place byte next =
     (rest : List ℕ) (says : Option Line) → (Completes place (byte ∷ rest) says → Completes next rest says) × (Completes next rest says → Completes place (byte ∷ rest) says)
 
+-- the bytes lead from one place to another
+abbrev pub LeadsBy : Place → List ℕ → Place → Type 0
+LeadsBy place bytes next =
+    (rest : List ℕ) (says : Option Line) → (Completes place (bytes ++ rest) says → Completes next rest says) × (Completes next rest says → Completes place (bytes ++ rest) says)
+
 -- a line does not end here
 abbrev pub EndsEarly : Place → Type 0
 EndsEarly place = (says : Option Line) → Completes place [] says → ⊥

@@ -1,5 +1,5 @@
 -- Where a reader stands in a text.
-use Rattle.std.specs.Prelude.{◌≡◌, ◌≢◌, ◌⊎◌, ℕ, ◌+◌, ◌<◌, ◌≤◌, ◌^◌, List, [], ◌∷◌, ◌++◌, length, map, sum_by, Option, Some, None}
+use Rattle.std.specs.Prelude.{◌≡◌, ◌≢◌, ◌⊎◌, ℕ, ◌+◌, ◌<◌, ◌≤◌, ◌^◌, Bool, true, false, List, [], ◌∷◌, ◌++◌, length, map, sum_by, Option, Some, None}
 use Rattle.shared_io.specs.declared.limits.TooKind.TheVariants.{Calls}
 use Rattle.script_text.specs.declared.lines.Line.{Line}
 use Rattle.script_text.specs.declared.lines.Line.TheVariants.{End as EndLine}
@@ -80,6 +80,11 @@ pub record Stands (read : List ℕ) (draft : Draft) (place : Place) : Type 0 whe
 -- the byte ends the line `end`
 abbrev pub IsEndAt : Draft → List ℕ → ℕ → Type 0
 IsEndAt draft part byte = (byte ≡ 10) × IsLine draft.stage part (Some EndLine)
+
+-- where an end of the script, or else a place, is reached
+abbrev pub reached : Bool → Place → Reached
+reached true place = End
+reached false place = Within place
 
 -- where the byte led
 abbrev pub HasReached : List ℕ → Draft → Draft → List ℕ → ℕ → Reached → Type 0

@@ -4,7 +4,7 @@ ghost use Rattle.script_text.specs.Lines.{MayCome};
 ghost use Rattle.script_text.specs.Places.{IsPlace, Completes};
 ghost use Rattle.script_text.specs.Scripts.{plain_script};
 ghost use Rattle.script_text.specs.ScriptText.{IsLastCause, IsMade, NamesLine};
-ghost use Rattle.script_text.specs.Standing.{progress_of, IsDraft, HasTaken, HasSaid, IsTakeFault, IsEndFault, IsStanding, Stands, StaysStanding, HasReached, IsFaultAt, IsEndAt, HasReachedWithin, IsFaultWithin, HasReachedBehind, IsFaultBehind};
+ghost use Rattle.script_text.specs.Standing.{progress_of, IsDraft, HasTaken, HasSaid, IsTakeFault, IsEndFault, IsStanding, Stands, StaysStanding, HasReached, reached, IsFaultAt, IsEndAt, HasReachedWithin, IsFaultWithin, HasReachedBehind, IsFaultBehind};
 
 use crate::drafts::Draft;
 use crate::faults::ScriptFault;
@@ -23,77 +23,84 @@ pub enum Reached {
     End,
 }
 
-/// Takes one byte.
+/// Takes one byte, and answers whether it ended the line `end`.
 #[inline(always)]
 fn take_byte(
     draft: &mut Draft,
     alloc: Global,
-    place: Place,
+    place: &mut Place,
     byte: u8,
-) -> Result<Reached, ScriptFault>
-    requires standing { IsStanding draft.old place }
+) -> Result<bool, ScriptFault>
+    requires standing { IsStanding draft.old place.old }
     requires lines { draft.old.line < 2 ^ 63 }
-    ensures standing { IfOk result (λ reached. StaysStanding draft.new reached) }
+    ensures standing { IfOk result (λ ended. StaysStanding draft.new (reached ended place.new)) }
     ensures lines { OnOk result (draft.new.line ≤ draft.old.line + 1) }
-    ensures led { (read : List ℕ) (stands : Stands read draft.old place) → MatchResult result (λ reached. HasReached read draft.old draft.new stands.part byte reached) (λ fault. IsFaultAt draft.old stands.part byte fault) }
+    ensures led { (read : List ℕ) (stands : Stands read draft.old place.old) → MatchResult result (λ ended. HasReached read draft.old draft.new stands.part byte (reached ended place.new)) (λ fault. IsFaultAt draft.old stands.part byte fault) }
 {
     if byte == b'\n' {
         return end_line(draft, alloc, place);
     }
-    match place.step(byte) {
-        Some(place) => Ok(Reached::Within { place }),
-        None => Err(ScriptFault::BadLine { line: draft.line }),
+    if !place.step(byte) {
+        return Err(ScriptFault::BadLine { line: draft.line });
     }
+    Ok(false)
 }
 
-/// Takes the end of a line.
-fn end_line(draft: &mut Draft, alloc: Global, place: Place) -> Result<Reached, ScriptFault>
-    requires standing { IsStanding draft.old place }
+/// Takes the end of a line, and answers whether that was the line `end`.
+fn end_line(draft: &mut Draft, alloc: Global, place: &mut Place) -> Result<bool, ScriptFault>
+    requires standing { IsStanding draft.old place.old }
     requires lines { draft.old.line < 2 ^ 63 }
-    ensures standing { IfOk result (λ reached. StaysStanding draft.new reached) }
+    ensures standing { IfOk result (λ ended. StaysStanding draft.new (reached ended place.new)) }
     ensures lines { OnOk result (draft.new.line ≤ draft.old.line + 1) }
-    ensures led { (read : List ℕ) (stands : Stands read draft.old place) → MatchResult result (λ reached. HasReached read draft.old draft.new stands.part 10 reached) (λ fault. IsFaultAt draft.old stands.part 10 fault) }
+    ensures led { (read : List ℕ) (stands : Stands read draft.old place.old) → MatchResult result (λ ended. HasReached read draft.old draft.new stands.part 10 (reached ended place.new)) (λ fault. IsFaultAt draft.old stands.part 10 fault) }
 {
     match place.ended() {
         None => Err(ScriptFault::BadLine { line: draft.line }),
-        Some(None) => Ok(skip_line(draft)),
-        Some(Some(line)) => take_line(draft, alloc, line),
+        Some(None) => {
+            *place = skip_line(draft);
+            Ok(false)
+        }
+        Some(Some(line)) => take_line(draft, alloc, place, line),
     }
 }
 
-/// Takes a line that says nothing.
-fn skip_line(draft: &mut Draft) -> Reached
+/// Takes a line that says nothing, and answers the front of the next.
+fn skip_line(draft: &mut Draft) -> Place
     requires draft { IsDraft draft.old }
     requires lines { draft.old.line < 2 ^ 63 }
-    ensures reached { result ≡ Reached.Within (Place.Lead (choice_at draft.new.stage)) }
+    ensures place { result ≡ Place.Lead (choice_at draft.new.stage) }
     ensures taken { HasTaken draft.old draft.new None }
 {
     draft.skip();
     next_line(draft)
 }
 
-/// Takes what a line says.
-fn take_line(draft: &mut Draft, alloc: Global, line: Line) -> Result<Reached, ScriptFault>
+/// Takes what a line says, and answers whether that is the end of the script.
+fn take_line(
+    draft: &mut Draft,
+    alloc: Global,
+    place: &mut Place,
+    line: Line,
+) -> Result<bool, ScriptFault>
     requires draft { IsDraft draft.old }
     requires may_come { MayCome draft.old.stage line }
     requires lines { draft.old.line < 2 ^ 63 }
-    ensures { MatchResult result (λ reached. HasSaid draft.old draft.new line reached) (λ fault. IsTakeFault draft.old line fault) }
+    ensures { MatchResult result (λ ended. HasSaid draft.old draft.new line (reached ended place.new)) (λ fault. IsTakeFault draft.old line fault) }
 {
     if is_end(line) {
-        return Ok(Reached::End);
+        return Ok(true);
     }
     draft.take(alloc, line)?;
-    Ok(next_line(draft))
+    *place = next_line(draft);
+    Ok(false)
 }
 
 /// The front of the next line.
-fn next_line(draft: &Draft) -> Reached
-    ensures { result ≡ Reached.Within (Place.Lead (choice_at draft.now.stage)) }
+fn next_line(draft: &Draft) -> Place
+    ensures { result ≡ Place.Lead (choice_at draft.now.stage) }
 {
-    Reached::Within {
-        place: Place::Lead {
-            choice: draft.stage.choice(),
-        },
+    Place::Lead {
+        choice: draft.stage.choice(),
     }
 }
 
@@ -110,11 +117,13 @@ fn take_bytes(
     ensures lines { OnOk result (draft.new.line ≤ draft.old.line + length piece.now) }
     ensures led { (read : List ℕ) → Stands read draft.old place → MatchResult result (λ reached. HasReachedWithin read piece.now draft.new reached) (λ fault. IsFaultWithin read piece.now fault) }
 {
-    for &byte in piece {
-        match take_byte(draft, alloc, place, byte)? {
-            Reached::Within { place: next } => place = next,
-            Reached::End => return Ok(Reached::End),
+    let mut at = 0;
+    while at < piece.len() {
+        if take_byte(draft, alloc, &mut place, piece[at])? {
+            return Ok(Reached::End);
         }
+        at += 1;
+        at += place.run(&piece[at..]);
     }
     Ok(Reached::Within { place })
 }

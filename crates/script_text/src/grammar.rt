@@ -1,5 +1,5 @@
 ghost use Rattle.std.specs.Prelude.{◌≡◌, ◌≤◌, ◌<◌, ◌^◌};
-ghost use Rattle.script_text.specs.Grammar.{text, words, list_word, bag_word, deque_word, try_word, round_word, word_after, choice_at, least, most, InRange, IsSlot, number_after, kind_of};
+ghost use Rattle.script_text.specs.Grammar.{text, words, spoken_words, tried_words, list_word, bag_word, deque_word, try_word, round_word, spoken_word, tried_word, word_after, choice_at, least, most, AreBounds, InRange, IsSlot, number_after, kind_of};
 
 use crate::lines::{Line, Stage};
 use crate::scripts::{Call, ObjectLine};
@@ -86,6 +86,13 @@ pub enum Slot {
     PushFront { once: bool },
 }
 
+/// The least and the greatest number of a slot.
+#[derive(Clone, Copy, Debug, PartialEq, Eq)]
+pub struct Bounds {
+    pub least: u64,
+    pub most: u64,
+}
+
 /// What stands next in a line.
 #[derive(Clone, Copy, Debug, PartialEq, Eq)]
 pub enum Expected {
@@ -138,56 +145,13 @@ impl Choice {
             Choice::Kind => &[Word::List, Word::Bag, Word::Deque],
             Choice::Callers => &[Word::Callers],
             Choice::Silent { .. } => &[Word::Caller, Word::Round, Word::End],
-            Choice::Spoken {
-                kind: Kind::List,
-                ..
-            } => &[
-                Word::Read,
-                Word::Write,
-                Word::Swap,
-                Word::Add,
-                Word::Grow,
-                Word::Len,
-                Word::Round,
-                Word::Caller,
-                Word::End,
-            ],
-            Choice::Spoken {
-                kind: Kind::Bag,
-                ..
-            } => &[
-                Word::Add,
-                Word::Remove,
-                Word::Try,
-                Word::Round,
-                Word::Caller,
-                Word::End,
-            ],
-            Choice::Spoken {
-                kind: Kind::Deque,
-                ..
-            } => &[
-                Word::PushBack,
-                Word::PushFront,
-                Word::PopBack,
-                Word::PopFront,
-                Word::Try,
-                Word::Round,
-                Word::Caller,
-                Word::End,
-            ],
-            Choice::Try { kind: Kind::List } => &[],
-            Choice::Try { kind: Kind::Bag } => &[Word::Add, Word::Remove],
-            Choice::Try { kind: Kind::Deque } => &[
-                Word::PushBack,
-                Word::PushFront,
-                Word::PopBack,
-                Word::PopFront,
-            ],
+            Choice::Spoken { kind, .. } => kind.spoken_words(),
+            Choice::Try { kind } => kind.tried_words(),
         }
     }
 
     /// What stands behind a word, if it is one of these.
+    #[inline(always)]
     pub fn after(self, word: Word) -> Option<Expected>
         ensures { result ≡ word_after self word }
     {
@@ -200,50 +164,111 @@ impl Choice {
             (Choice::Kind, Word::Deque) => Some(one_number(Slot::DequeLocales)),
             (Choice::Callers, Word::Callers) => Some(one_number(Slot::Callers)),
             (Choice::Silent { callers }, _) => round_word(callers, word),
-            (
-                Choice::Spoken {
-                    kind: Kind::List,
-                    callers,
-                },
-                _,
-            ) => list_word(word).or(round_word(callers, word)),
-            (
-                Choice::Spoken {
-                    kind: Kind::Bag,
-                    callers,
-                },
-                _,
-            ) => bag_word(false, word)
-                .or(try_word(Kind::Bag, callers, word))
-                .or(round_word(callers, word)),
-            (
-                Choice::Spoken {
-                    kind: Kind::Deque,
-                    callers,
-                },
-                _,
-            ) => deque_word(false, word)
-                .or(try_word(Kind::Deque, callers, word))
-                .or(round_word(callers, word)),
-            (Choice::Try { kind: Kind::Bag }, _) => bag_word(true, word),
-            (Choice::Try { kind: Kind::Deque }, _) => deque_word(true, word),
+            (Choice::Spoken { kind, callers }, _) => kind.spoken_word(callers, word),
+            (Choice::Try { kind }, _) => kind.tried_word(word),
             _ => None,
         }
     }
 }
 
+impl Kind {
+    /// The words that begin a line behind a `caller` line.
+    fn spoken_words(self) -> &'static [Word]
+        ensures { result.now ≡ spoken_words self }
+    {
+        match self {
+            Kind::List => &[
+                Word::Read,
+                Word::Write,
+                Word::Swap,
+                Word::Add,
+                Word::Grow,
+                Word::Len,
+                Word::Round,
+                Word::Caller,
+                Word::End,
+            ],
+            Kind::Bag => &[
+                Word::Add,
+                Word::Remove,
+                Word::Try,
+                Word::Round,
+                Word::Caller,
+                Word::End,
+            ],
+            Kind::Deque => &[
+                Word::PushBack,
+                Word::PushFront,
+                Word::PopBack,
+                Word::PopFront,
+                Word::Try,
+                Word::Round,
+                Word::Caller,
+                Word::End,
+            ],
+        }
+    }
+
+    /// The words that follow `try`.
+    fn tried_words(self) -> &'static [Word]
+        ensures { result.now ≡ tried_words self }
+    {
+        match self {
+            Kind::List => &[],
+            Kind::Bag => &[Word::Add, Word::Remove],
+            Kind::Deque => &[
+                Word::PushBack,
+                Word::PushFront,
+                Word::PopBack,
+                Word::PopFront,
+            ],
+        }
+    }
+
+    /// What stands behind a word that begins a line.
+    #[inline(always)]
+    fn spoken_word(self, callers: u32, word: Word) -> Option<Expected>
+        ensures { result ≡ spoken_word self callers word }
+    {
+        match self {
+            Kind::List => list_word(word).or(round_word(callers, word)),
+            Kind::Bag => bag_word(false, word)
+                .or(try_word(Kind::Bag, callers, word))
+                .or(round_word(callers, word)),
+            Kind::Deque => deque_word(false, word)
+                .or(try_word(Kind::Deque, callers, word))
+                .or(round_word(callers, word)),
+        }
+    }
+
+    /// What stands behind a word that follows `try`.
+    #[inline(always)]
+    fn tried_word(self, word: Word) -> Option<Expected>
+        ensures { result ≡ tried_word self word }
+    {
+        match self {
+            Kind::List => None,
+            Kind::Bag => bag_word(true, word),
+            Kind::Deque => deque_word(true, word),
+        }
+    }
+}
+
+#[inline(always)]
 fn one_word(choice: Choice) -> Expected
     ensures { result ≡ Expected.Word choice }
 {
     Expected::Word { choice }
 }
 
+#[inline(always)]
 fn one_number(slot: Slot) -> Expected
     ensures { result ≡ Expected.Number slot }
 {
     Expected::Number { slot }
 }
 
+#[inline(always)]
 fn nothing(line: Line) -> Expected
     ensures { result ≡ Expected.Nothing line }
 {
@@ -256,6 +281,63 @@ fn object(object: ObjectLine) -> Expected
     nothing(Line::Object { object })
 }
 
+fn list_objects(locales: u8) -> Expected
+    ensures { result ≡ Expected.Number (Slot.ListObjects locales) }
+{
+    one_number(Slot::ListObjects { locales })
+}
+
+fn list_width(locales: u8, objects: u32) -> Expected
+    ensures { result ≡ Expected.Number (Slot.ListWidth locales objects) }
+{
+    one_number(Slot::ListWidth { locales, objects })
+}
+
+fn list_line(locales: u8, objects: u32, width: u32) -> Expected
+    ensures { result ≡ Expected.Nothing (Line.Object (ObjectLine.List locales objects width)) }
+{
+    object(ObjectLine::List {
+        locales,
+        objects,
+        width,
+    })
+}
+
+fn bag_segments(locales: u8) -> Expected
+    ensures { result ≡ Expected.Number (Slot.BagSegments locales) }
+{
+    one_number(Slot::BagSegments { locales })
+}
+
+fn bag_room(locales: u8, segments: u32) -> Expected
+    ensures { result ≡ Expected.Number (Slot.BagRoom locales segments) }
+{
+    one_number(Slot::BagRoom { locales, segments })
+}
+
+fn bag_line(locales: u8, segments: u32, room: u32) -> Expected
+    ensures { result ≡ Expected.Nothing (Line.Object (ObjectLine.Bag locales segments room)) }
+{
+    object(ObjectLine::Bag {
+        locales,
+        segments,
+        room,
+    })
+}
+
+fn deque_capacity(locales: u8) -> Expected
+    ensures { result ≡ Expected.Number (Slot.DequeCapacity locales) }
+{
+    one_number(Slot::DequeCapacity { locales })
+}
+
+fn deque_line(locales: u8, capacity: u32) -> Expected
+    ensures { result ≡ Expected.Nothing (Line.Object (ObjectLine.Deque locales capacity)) }
+{
+    object(ObjectLine::Deque { locales, capacity })
+}
+
+#[inline(always)]
 fn list_call(call: ListCall) -> Expected
     ensures { result ≡ Expected.Nothing (Line.Call (Call.List call)) }
 {
@@ -264,6 +346,7 @@ fn list_call(call: ListCall) -> Expected
     })
 }
 
+#[inline(always)]
 fn bag_call(call: BagCall, once: bool) -> Expected
     ensures { result ≡ Expected.Nothing (Line.Call (Call.Bag call once)) }
 {
@@ -272,6 +355,7 @@ fn bag_call(call: BagCall, once: bool) -> Expected
     })
 }
 
+#[inline(always)]
 fn deque_call(call: DequeCall, once: bool) -> Expected
     ensures { result ≡ Expected.Nothing (Line.Call (Call.Deque call once)) }
 {
@@ -280,6 +364,7 @@ fn deque_call(call: DequeCall, once: bool) -> Expected
     })
 }
 
+#[inline(always)]
 fn list_word(word: Word) -> Option<Expected>
     ensures { result ≡ list_word word }
 {
@@ -294,6 +379,7 @@ fn list_word(word: Word) -> Option<Expected>
     })
 }
 
+#[inline(always)]
 fn bag_word(once: bool, word: Word) -> Option<Expected>
     ensures { result ≡ bag_word once word }
 {
@@ -304,6 +390,7 @@ fn bag_word(once: bool, word: Word) -> Option<Expected>
     })
 }
 
+#[inline(always)]
 fn deque_word(once: bool, word: Word) -> Option<Expected>
     ensures { result ≡ deque_word once word }
 {
@@ -316,6 +403,7 @@ fn deque_word(once: bool, word: Word) -> Option<Expected>
     })
 }
 
+#[inline(always)]
 fn try_word(kind: Kind, callers: u32, word: Word) -> Option<Expected>
     ensures { result ≡ try_word kind callers word }
 {
@@ -325,6 +413,7 @@ fn try_word(kind: Kind, callers: u32, word: Word) -> Option<Expected>
     }
 }
 
+#[inline(always)]
 fn round_word(callers: u32, word: Word) -> Option<Expected>
     ensures { result ≡ round_word callers word }
 {
@@ -411,6 +500,18 @@ impl Slot {
         }
     }
 
+    /// The numbers that may stand here.
+    #[inline(always)]
+    pub fn bounds(self) -> Bounds
+        requires { IsSlot self }
+        ensures { AreBounds self result }
+    {
+        Bounds {
+            least: self.least(),
+            most: self.most(),
+        }
+    }
+
     /// What stands behind the number.
     pub fn after(self, number: u64) -> Expected
         requires slot { IsSlot self }
@@ -418,37 +519,14 @@ impl Slot {
         ensures { result ≡ number_after self number }
     {
         match self {
-            Slot::ListLocales => one_number(Slot::ListObjects {
-                locales: number as u8,
-            }),
-            Slot::ListObjects { locales } => one_number(Slot::ListWidth {
-                locales,
-                objects: number as u32,
-            }),
-            Slot::ListWidth { locales, objects } => object(ObjectLine::List {
-                locales,
-                objects,
-                width: number as u32,
-            }),
-            Slot::BagLocales => one_number(Slot::BagSegments {
-                locales: number as u8,
-            }),
-            Slot::BagSegments { locales } => one_number(Slot::BagRoom {
-                locales,
-                segments: number as u32,
-            }),
-            Slot::BagRoom { locales, segments } => object(ObjectLine::Bag {
-                locales,
-                segments,
-                room: number as u32,
-            }),
-            Slot::DequeLocales => one_number(Slot::DequeCapacity {
-                locales: number as u8,
-            }),
-            Slot::DequeCapacity { locales } => object(ObjectLine::Deque {
-                locales,
-                capacity: number as u32,
-            }),
+            Slot::ListLocales => list_objects(number as u8),
+            Slot::ListObjects { locales } => list_width(locales, number as u32),
+            Slot::ListWidth { locales, objects } => list_line(locales, objects, number as u32),
+            Slot::BagLocales => bag_segments(number as u8),
+            Slot::BagSegments { locales } => bag_room(locales, number as u32),
+            Slot::BagRoom { locales, segments } => bag_line(locales, segments, number as u32),
+            Slot::DequeLocales => deque_capacity(number as u8),
+            Slot::DequeCapacity { locales } => deque_line(locales, number as u32),
             Slot::Callers => nothing(Line::Callers {
                 callers: number as u32,
             }),

@@ -13,6 +13,7 @@ mod lines;
 mod places;
 mod reader;
 mod replies;
+mod runs;
 mod scripts;
 mod writer;
 

@@ -1,9 +1,11 @@
-ghost use Rattle.std.specs.Prelude.{ℕ, ◌≡◌, ◌≢◌, ◌≤◌, ◌<◌, ◌++◌, ◌∷◌, [], true, MatchOption, IfSome, IsTrue, ◌↔◌, length, take};
-ghost use Rattle.script_text.specs.Grammar.{text, word_after, most, IsSlot, InRange, IsChoice, IsExpected};
+ghost use Rattle.std.specs.Prelude.{ℕ, ◌≡◌, ◌≢◌, ◌≤◌, ◌<◌, ◌++◌, ◌∷◌, [], true, MatchBool, MatchOption, IsTrue, ◌↔◌, length, take};
+ghost use Rattle.std.specs.Bool.{OnTrue};
+ghost use Rattle.script_text.specs.Grammar.{text, word_after, most, AreBounds, IsSlot, InRange, IsChoice, IsExpected};
 ghost use Rattle.script_text.specs.Places.{IsPlace, IsStop, LeadsTo, EndsEarly, EndsSaying, Begins, BeginsNone, BeginsOne, digit_after, is_open};
 ghost use Rattle.script_text.specs.Words.{is_blank};
+ghost use Rattle.script_text.specs.declared.grammar.Slot.{Slot};
 
-use crate::grammar::{Choice, Expected, Slot, Word};
+use crate::grammar::{Bounds, Choice, Expected, Slot, Word};
 use crate::lines::Line;
 
 /// Where in a line a reader stands, with what it has read of the line.
@@ -32,30 +34,30 @@ pub enum Place {
 }
 
 impl Place {
-    /// Where the byte leads, if a line can go on with it.
-    #[inline(always)]
-    pub fn step(self, byte: u8) -> Option<Place>
-        requires place { IsPlace self }
+    /// Goes on with the byte, and answers whether a line can.
+    #[inline(never)]
+    pub fn step(&mut self, byte: u8) -> bool
+        requires place { IsPlace self.old }
         requires within { byte ≢ 10 }
-        ensures place { IfSome result (λ next. IsPlace next) }
-        ensures exact { MatchOption result (IsStop self byte) (λ next. LeadsTo self byte next) }
+        ensures place { OnTrue result (IsPlace self.new) }
+        ensures exact { MatchBool result (LeadsTo self.old byte self.new) (IsStop self.old byte) }
     {
-        match self {
-            Place::Lead { choice } => from_lead(choice, byte),
-            Place::Comment => Some(self),
-            Place::Word { choice, word, at } => from_word(choice, word, at, byte),
-            Place::Gap { expected } => from_gap(expected, byte),
-            Place::Number { slot, value } => from_number(slot, value, byte),
+        match *self {
+            Place::Lead { choice } => from_lead(self, choice, byte),
+            Place::Comment => true,
+            Place::Word { choice, word, at } => from_word(self, choice, word, at, byte),
+            Place::Gap { expected } => from_gap(self, expected, byte),
+            Place::Number { slot, value } => from_number(self, slot, value, byte),
         }
     }
 
     /// What the line says if it ends here, and for a blank line or a comment `None`; or else that no line
     /// ends here.
-    pub fn ended(self) -> Option<Option<Line>>
-        requires { IsPlace self }
-        ensures { MatchOption result (EndsEarly self) (λ says. EndsSaying self says) }
+    pub fn ended(&self) -> Option<Option<Line>>
+        requires { IsPlace self.now }
+        ensures { MatchOption result (EndsEarly self.now) (λ says. EndsSaying self.now says) }
     {
-        match self {
+        match *self {
             Place::Lead { .. } | Place::Comment => Some(None),
             Place::Word { choice, word, at } => word_ended(choice, word, at),
             Place::Gap { expected } => expected_ended(expected),
@@ -71,108 +73,123 @@ fn is_blank(byte: u8) -> bool
 }
 
 #[inline(always)]
-fn from_lead(choice: Choice, byte: u8) -> Option<Place>
+fn from_lead(place: &mut Place, choice: Choice, byte: u8) -> bool
+    requires place { place.old ≡ Place.Lead choice }
     requires choice { IsChoice choice }
     requires within { byte ≢ 10 }
-    ensures place { IfSome result (λ next. IsPlace next) }
-    ensures exact { MatchOption result (IsStop (Place.Lead choice) byte) (λ next. LeadsTo (Place.Lead choice) byte next) }
+    ensures place { OnTrue result (IsPlace place.new) }
+    ensures exact { MatchBool result (LeadsTo (Place.Lead choice) byte place.new) (IsStop (Place.Lead choice) byte) }
 {
     if is_blank(byte) {
-        return Some(Place::Lead { choice });
+        return true;
     }
     if byte == b'#' {
-        return Some(Place::Comment);
+        *place = Place::Comment;
+        return true;
     }
-    first_letter(choice, byte)
+    first_letter(place, choice, byte)
 }
 
 #[inline(always)]
-fn from_gap(expected: Expected, byte: u8) -> Option<Place>
+fn from_gap(place: &mut Place, expected: Expected, byte: u8) -> bool
+    requires place { place.old ≡ Place.Gap expected }
     requires expected { IsExpected expected }
     requires within { byte ≢ 10 }
-    ensures place { IfSome result (λ next. IsPlace next) }
-    ensures exact { MatchOption result (IsStop (Place.Gap expected) byte) (λ next. LeadsTo (Place.Gap expected) byte next) }
+    ensures place { OnTrue result (IsPlace place.new) }
+    ensures exact { MatchBool result (LeadsTo (Place.Gap expected) byte place.new) (IsStop (Place.Gap expected) byte) }
 {
     if is_blank(byte) {
-        return Some(Place::Gap { expected });
+        return true;
     }
     match expected {
-        Expected::Word { choice } => first_letter(choice, byte),
-        Expected::Number { slot } => first_digit(slot, byte),
-        Expected::Nothing { .. } => None,
+        Expected::Word { choice } => first_letter(place, choice, byte),
+        Expected::Number { slot } => first_digit(place, slot, byte),
+        Expected::Nothing { .. } => false,
     }
 }
 
-/// Where the first letter of a word leads.
-fn first_letter(choice: Choice, byte: u8) -> Option<Place>
+/// Goes on to the first letter of a word.
+fn first_letter(place: &mut Place, choice: Choice, byte: u8) -> bool
     requires choice { IsChoice choice }
     requires letter { is_blank byte ≢ true }
     requires within { byte ≢ 10 }
-    ensures place { IfSome result (λ next. IsPlace next) }
-    ensures exact { MatchOption result (IsStop (Place.Gap (Expected.Word choice)) byte) (λ next. LeadsTo (Place.Gap (Expected.Word choice)) byte next) }
+    ensures place { OnTrue result (IsPlace place.new) }
+    ensures exact { MatchBool result (LeadsTo (Place.Gap (Expected.Word choice)) byte place.new) (IsStop (Place.Gap (Expected.Word choice)) byte) }
 {
-    let word = word_with(choice, b"", byte)?;
-    Some(Place::Word {
+    let Some(word) = word_with(choice, b"", byte) else {
+        return false;
+    };
+    *place = Place::Word {
         choice,
         word,
         at: 1,
-    })
+    };
+    true
 }
 
-/// Where the first digit of a number leads.
+/// Goes on to the first digit of a number.
 #[inline(always)]
-fn first_digit(slot: Slot, byte: u8) -> Option<Place>
+fn first_digit(place: &mut Place, slot: Slot, byte: u8) -> bool
     requires slot { IsSlot slot }
     requires letter { is_blank byte ≢ true }
     requires within { byte ≢ 10 }
-    ensures place { IfSome result (λ next. IsPlace next) }
-    ensures exact { MatchOption result (IsStop (Place.Gap (Expected.Number slot)) byte) (λ next. LeadsTo (Place.Gap (Expected.Number slot)) byte next) }
+    ensures place { OnTrue result (IsPlace place.new) }
+    ensures exact { MatchBool result (LeadsTo (Place.Gap (Expected.Number slot)) byte place.new) (IsStop (Place.Gap (Expected.Number slot)) byte) }
 {
-    let value = with_digit(slot, 0, byte)?;
-    Some(Place::Number { slot, value })
+    let Some(value) = with_digit(slot.bounds(), 0, byte) else {
+        return false;
+    };
+    *place = Place::Number { slot, value };
+    true
 }
 
 #[inline(always)]
-fn from_word(choice: Choice, word: Word, at: usize, byte: u8) -> Option<Place>
+fn from_word(place: &mut Place, choice: Choice, word: Word, at: usize, byte: u8) -> bool
     requires place { IsPlace (Place.Word choice word at) }
     requires within { byte ≢ 10 }
-    ensures place { IfSome result (λ next. IsPlace next) }
-    ensures exact { MatchOption result (IsStop (Place.Word choice word at) byte) (λ next. LeadsTo (Place.Word choice word at) byte next) }
+    ensures place { OnTrue result (IsPlace place.new) }
+    ensures exact { MatchBool result (LeadsTo (Place.Word choice word at) byte place.new) (IsStop (Place.Word choice word at) byte) }
 {
     if is_blank(byte) {
-        return word_behind(choice, word, at);
+        return word_behind(place, choice, word, at);
     }
-    longer_word(choice, word, at, byte)
+    longer_word(place, choice, word, at, byte)
 }
 
-/// The place behind a blank that ends the word.
-fn word_behind(choice: Choice, word: Word, at: usize) -> Option<Place>
+/// Goes on behind a blank that ends the word.
+fn word_behind(place: &mut Place, choice: Choice, word: Word, at: usize) -> bool
     requires { IsPlace (Place.Word choice word at) }
-    ensures place { IfSome result (λ next. IsPlace next) }
-    ensures exact { (byte : ℕ) → is_blank byte ≡ true → MatchOption result (IsStop (Place.Word choice word at) byte) (λ next. LeadsTo (Place.Word choice word at) byte next) }
+    ensures place { OnTrue result (IsPlace place.new) }
+    ensures exact { (byte : ℕ) → is_blank byte ≡ true → MatchBool result (LeadsTo (Place.Word choice word at) byte place.new) (IsStop (Place.Word choice word at) byte) }
 {
     if at < word.text().len() {
-        return None;
+        return false;
     }
-    let expected = choice.after(word)?;
-    Some(Place::Gap { expected })
+    let Some(expected) = choice.after(word) else {
+        return false;
+    };
+    *place = Place::Gap { expected };
+    true
 }
 
-/// The place behind one more letter, of this word or of another that begins so.
+/// Goes on to one more letter, of this word or of another that begins so.
 #[inline(always)]
-fn longer_word(choice: Choice, word: Word, at: usize, byte: u8) -> Option<Place>
+fn longer_word(place: &mut Place, choice: Choice, word: Word, at: usize, byte: u8) -> bool
     requires place { IsPlace (Place.Word choice word at) }
     requires letter { is_blank byte ≢ true }
     requires within { byte ≢ 10 }
-    ensures place { IfSome result (λ next. IsPlace next) }
-    ensures exact { MatchOption result (IsStop (Place.Word choice word at) byte) (λ next. LeadsTo (Place.Word choice word at) byte next) }
+    ensures place { OnTrue result (IsPlace place.new) }
+    ensures exact { MatchBool result (LeadsTo (Place.Word choice word at) byte place.new) (IsStop (Place.Word choice word at) byte) }
 {
-    let word = word_from(choice, word, at, byte)?;
-    Some(Place::Word {
+    let Some(word) = word_from(choice, word, at, byte) else {
+        return false;
+    };
+    *place = Place::Word {
         choice,
         word,
         at: at + 1,
-    })
+    };
+    true
 }
 
 /// This word, or another that begins with as many of its letters, if it goes on with the byte.
@@ -200,72 +217,70 @@ fn word_with(choice: Choice, front: &[u8], byte: u8) -> Option<Word>
     None
 }
 
+#[inline(always)]
 fn begins(word: &[u8], front: &[u8], byte: u8) -> bool
     ensures { IsTrue result ↔ Begins word.now (front.now ++ byte ∷ []) }
 {
-    match word.strip_prefix(front) {
-        Some(rest) => begins_with_byte(rest, byte),
-        None => false,
+    if word.len() <= front.len() {
+        return false;
     }
-}
-
-fn begins_with_byte(word: &[u8], byte: u8) -> bool
-    ensures { IsTrue result ↔ Begins word.now (byte ∷ []) }
-{
-    match word {
-        [first, ..] => *first == byte,
-        [] => false,
+    if word[front.len()] != byte {
+        return false;
     }
+    word.starts_with(front)
 }
 
 #[inline(always)]
-fn from_number(slot: Slot, value: u64, byte: u8) -> Option<Place>
+fn from_number(place: &mut Place, slot: Slot, value: u64, byte: u8) -> bool
     requires place { IsPlace (Place.Number slot value) }
     requires within { byte ≢ 10 }
-    ensures place { IfSome result (λ next. IsPlace next) }
-    ensures exact { MatchOption result (IsStop (Place.Number slot value) byte) (λ next. LeadsTo (Place.Number slot value) byte next) }
+    ensures place { OnTrue result (IsPlace place.new) }
+    ensures exact { MatchBool result (LeadsTo (Place.Number slot value) byte place.new) (IsStop (Place.Number slot value) byte) }
 {
     if is_blank(byte) {
-        return number_behind(slot, value);
+        return number_behind(place, slot, value);
     }
-    let value = with_digit(slot, value, byte)?;
-    Some(Place::Number { slot, value })
+    let Some(value) = with_digit(slot.bounds(), value, byte) else {
+        return false;
+    };
+    *place = Place::Number { slot, value };
+    true
 }
 
-/// The place behind a blank that ends the number.
-fn number_behind(slot: Slot, value: u64) -> Option<Place>
+/// Goes on behind a blank that ends the number.
+fn number_behind(place: &mut Place, slot: Slot, value: u64) -> bool
     requires { IsPlace (Place.Number slot value) }
-    ensures place { IfSome result (λ next. IsPlace next) }
-    ensures exact { (byte : ℕ) → is_blank byte ≡ true → MatchOption result (IsStop (Place.Number slot value) byte) (λ next. LeadsTo (Place.Number slot value) byte next) }
+    ensures place { OnTrue result (IsPlace place.new) }
+    ensures exact { (byte : ℕ) → is_blank byte ≡ true → MatchBool result (LeadsTo (Place.Number slot value) byte place.new) (IsStop (Place.Number slot value) byte) }
 {
     if value < slot.least() {
-        return None;
+        return false;
     }
-    let expected = slot.after(value);
-    Some(Place::Gap { expected })
+    *place = Place::Gap {
+        expected: slot.after(value),
+    };
+    true
 }
 
 /// The number with a digit at its end, if the byte is one and the number may still come to lie in the
-/// range.
+/// bounds.
 #[inline(always)]
-fn with_digit(slot: Slot, value: u64, byte: u8) -> Option<u64>
-    requires slot { IsSlot slot }
-    ensures { result ≡ digit_after slot value byte }
+pub fn with_digit(bounds: Bounds, value: u64, byte: u8) -> Option<u64>
+    ensures { (slot : Slot) → AreBounds slot bounds → result ≡ digit_after slot value byte }
 {
     if !byte.is_ascii_digit() {
         return None;
     }
     let longer = value.checked_mul(10)?.checked_add(u64::from(byte - b'0'))?;
-    is_open(slot, longer).then_some(longer)
+    is_open(bounds, longer).then_some(longer)
 }
 
 #[inline(always)]
-fn is_open(slot: Slot, value: u64) -> bool
-    requires { IsSlot slot }
-    ensures { result ≡ is_open slot value }
+fn is_open(bounds: Bounds, value: u64) -> bool
+    ensures { (slot : Slot) → AreBounds slot bounds → result ≡ is_open slot value }
 {
-    let most = slot.most();
-    value <= most && (value == 0 || slot.least() <= value || value <= most / 10)
+    let Bounds { least, most } = bounds;
+    value <= most && (value == 0 || least <= value || value <= most / 10)
 }
 
 fn word_ended(choice: Choice, word: Word, at: usize) -> Option<Option<Line>>

@@ -11,5 +11,5 @@ returns-then-value-least-clause-exact c =
 
 pub returns-clause-exact : goal.returns-clause-exact
 returns-clause-exact c =
-    λ byte blank. subst (λ (e : Expected). LeadsTo (Number c.args.slot c.args.value) byte (Gap e)) (sym c.after-expected.ensures)
+    λ byte blank. subst (λ (e : Expected). LeadsTo (Number c.args.slot c.args.value) byte (Gap e)) (sym c.after.ensures)
     (number_behind_leads c.args.slot c.args.value byte blank (omega (arith, c.if-value-least.false, c.least.ensures), open_most c.args.slot c.args.value c.requires.1))

@@ -8,4 +8,4 @@ returns-then-at-text-clause-exact c =
 
 pub returns-clause-exact : goal.returns-clause-exact
 returns-clause-exact c =
-    λ byte blank. word_behind_leads c.args.choice c.args.word c.args.at c.in_ok-expected.expected byte blank (sym c.in_ok-expected.ensures) (omega (arith, c.if-at-text.false, ap length c.text.ensures))
+    λ byte blank. word_behind_leads c.args.choice c.args.word c.args.at c.in-Some.expected byte blank (sym c.in-Some.ensures) (omega (arith, c.if-at-text.false, ap length c.text.ensures))
