@@ -7,25 +7,43 @@ ghost use Rattle.script_text.specs.Scripts.{written, plain_script, IsValid, writ
 use crate::lines::Line;
 use crate::replies::{Left, Replies, Reply};
 use crate::scripts::{Call, ObjectLine, Round, Script};
+use itoa::Buffer;
 use seq_objects::{BagCall, DequeCall, ListCall};
 use std::alloc::{AllocError, Global};
 use std::fmt::Write;
+
+/// Adds a number.
+fn push_number(text: &mut String, number: u64) -> Result<(), AllocError>
+    ensures { OnOk result (string_bytes text.new ≡ string_bytes text.old ++ decimal number) }
+{
+    let mut buffer = Buffer::new();
+    text.push_str(buffer.format(number))
+}
+
+/// Adds a line of words and a number.
+fn push_line(text: &mut String, words: &str, number: u64) -> Result<(), AllocError>
+    ensures { OnOk result (string_bytes text.new ≡ string_bytes text.old ++ (words.now ++ (decimal number ++ 10 ∷ []))) }
+{
+    text.push_str(words)?;
+    push_number(text, number)?;
+    text.push_str("\n")
+}
 
 /// Adds a reply's line.
 fn push_reply(text: &mut String, reply: Reply) -> Result<(), AllocError>
     ensures { OnOk result (string_bytes text.new ≡ string_bytes text.old ++ (reply_text reply ++ 10 ∷ [])) }
 {
     match reply {
-        Reply::Value { value } => writeln!(text, "value {value}"),
+        Reply::Value { value } => push_line(text, "value ", value),
         Reply::Wrote => text.push_str("wrote\n"),
-        Reply::Was { value } => writeln!(text, "was {value}"),
-        Reply::Range { len } => writeln!(text, "range {len}"),
-        Reply::Len { len } => writeln!(text, "len {len}"),
+        Reply::Was { value } => push_line(text, "was ", value),
+        Reply::Range { len } => push_line(text, "range ", len),
+        Reply::Len { len } => push_line(text, "len ", len),
         Reply::TooLong => text.push_str("too long\n"),
-        Reply::NoRoom { locale } => writeln!(text, "no room {locale}"),
+        Reply::NoRoom { locale } => push_line(text, "no room ", u64::from(locale)),
         Reply::Added => text.push_str("added\n"),
         Reply::Full => text.push_str("full\n"),
-        Reply::Took { item } => writeln!(text, "took {item}"),
+        Reply::Took { item } => push_line(text, "took ", item),
         Reply::Empty => text.push_str("empty\n"),
         Reply::Pushed => text.push_str("pushed\n"),
     }
@@ -48,7 +66,8 @@ fn push_left(text: &mut String, items: &[u64]) -> Result<(), AllocError>
 {
     text.push_str("left")?;
     for item in items {
-        write!(text, " {item}")?;
+        text.push_str(" ")?;
+        push_number(text, *item)?;
     }
     text.push_str("\n")
 }
