@@ -1,4 +1,4 @@
-ghost use Rattle.std.specs.Prelude.{◌≡◌, ◌≤◌, ◌<◌, ◌^◌};
+ghost use Rattle.std.specs.Prelude.{◌≡◌, ◌<◌};
 ghost use Rattle.script_text.specs.Grammar.{text, words, spoken_words, tried_words, list_word, bag_word, deque_word, try_word, round_word, spoken_word, tried_word, word_after, choice_at, least, most, AreBounds, InRange, IsSlot, number_after, kind_of};
 
 use crate::lines::{Line, Stage};

@@ -1,6 +1,6 @@
-ghost use Rattle.std.specs.Prelude.{ℕ, ◌≡◌, ◌≢◌, ◌≤◌, ◌<◌, ◌++◌, ◌∷◌, [], true, MatchBool, MatchOption, IsTrue, ◌↔◌, length, take};
+ghost use Rattle.std.specs.Prelude.{ℕ, ◌≡◌, ◌≢◌, ◌<◌, ◌++◌, ◌∷◌, [], true, MatchBool, MatchOption, IsTrue, ◌↔◌, take};
 ghost use Rattle.std.specs.Bool.{OnTrue};
-ghost use Rattle.script_text.specs.Grammar.{text, word_after, most, AreBounds, IsSlot, InRange, IsChoice, IsExpected};
+ghost use Rattle.script_text.specs.Grammar.{text, AreBounds, IsSlot, IsChoice, IsExpected};
 ghost use Rattle.script_text.specs.Places.{IsPlace, IsStop, LeadsTo, EndsEarly, EndsSaying, Begins, BeginsNone, BeginsOne, digit_after, is_open};
 ghost use Rattle.script_text.specs.Words.{is_blank};
 ghost use Rattle.script_text.specs.declared.grammar.Slot.{Slot};
@@ -35,6 +35,7 @@ pub enum Place {
 
 impl Place {
     /// Goes on with the byte, and answers whether a line can.
+    // Kept a call, so that the place is changed where it lies and not taken apart and put together.
     #[inline(never)]
     pub fn step(&mut self, byte: u8) -> bool
         requires place { IsPlace self.old }

@@ -1,6 +1,6 @@
-use Rattle.std.proofs.Common.{ℕ, Bool, ◌+◌, ◌-◌, List, [], ◌∷◌, ◌++◌, length, take, drop, get_or, subst, arith, length-take-le, length-drop}
+use Rattle.std.proofs.Common.{Bool, ◌+◌, ◌-◌, ◌++◌, length, take, drop, get_or, subst, arith, length-take-le, length-drop}
 use Rattle.std.proofs.lemmas.Result.{err_from_is_err_and}
-use Rattle.script_text.specs.Standing.{Stands, HasReached, reached, StaysStanding}
+use Rattle.script_text.specs.Standing.{HasReached, reached, StaysStanding}
 use Rattle.script_text.proofs.Standings.{standing_by, stands_run, stop_at, fault_at}
 use Rattle.script_text.proofs.bytes.take_bytes.Goals as goal
 

@@ -1,5 +1,5 @@
-use Rattle.std.proofs.Common.{ℕ, List, ◌∷◌, [], ◌++◌, take, get_or, refl, sym, ◌∙◌, subst, arith}
-use Rattle.std.proofs.lemmas.List.{take_more, take_all}
+use Rattle.std.proofs.Common.{ℕ, List, ◌∷◌, [], take, get_or, refl, sym, subst, arith}
+use Rattle.std.proofs.lemmas.List.{take_more}
 use Rattle.script_text.specs.declared.places.Place.TheVariants.{Number}
 use Rattle.script_text.specs.Places.{LeadsBy}
 use Rattle.script_text.proofs.Leading.{leads_nothing, leads_on}

@@ -1,4 +1,4 @@
-use Rattle.std.proofs.Common.{ℕ, List, take, get_or, refl, sym, subst, arith}
+use Rattle.std.proofs.Common.{take, get_or, refl, sym, subst, arith}
 use Rattle.std.proofs.lemmas.List.{take_more}
 use Rattle.script_text.specs.Words.{IsWithinLine}
 use Rattle.script_text.proofs.Leading.{within_push}
