@@ -1,3 +1,7 @@
+pub use Rattle.pass_book.specs.Histories
+pub use Rattle.seq_objects.specs.BagSteps
+pub use Rattle.seq_objects.specs.ListSteps
+pub use Rattle.seq_objects.specs.Meanings
 pub use Rattle.script_text.specs.Replies
 pub use Rattle.script_text.specs.Scripts
 pub mod Answers

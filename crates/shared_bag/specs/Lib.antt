@@ -1,3 +1,8 @@
+pub use Rattle.pass_book.specs.Histories
+pub use Rattle.pass_book.specs.Pages
+pub use Rattle.seq_objects.specs.BagSteps
+pub use Rattle.seq_objects.specs.Meanings
+pub use Rattle.atomic_table.specs.Seated
 pub mod Shapes
 pub mod Counted
 pub mod Rule
