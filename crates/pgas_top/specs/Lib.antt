@@ -1,15 +1,11 @@
 pub use Rattle.edge_text.specs.EdgeText
 pub use Rattle.levels_engine.specs.Levels
 pub use Rattle.levels_engine.specs.Walks
-pub use Rattle.pass_book.specs.Histories
 pub use Rattle.script_engine.specs.Answers
 pub use Rattle.script_engine.specs.Shown
 pub use Rattle.script_text.specs.Replies
 pub use Rattle.script_text.specs.Scripts
 pub use Rattle.script_text.specs.ScriptText
-pub use Rattle.seq_objects.specs.BagSteps
-pub use Rattle.seq_objects.specs.ListSteps
-pub use Rattle.seq_objects.specs.Meanings
 pub use Rattle.shared_io.specs.Counts
 pub mod Commands
 pub mod Devices
