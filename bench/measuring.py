@@ -11,7 +11,10 @@ PROGRAM = os.path.join(BENCH, "..", "crates", "pgas", "out", "pgas")
 
 
 def measure(command, text):
-    """The seconds, the greatest memory in KiB and a digest of the output of one run on the text, a file's name."""
+    """The seconds, the greatest memory in KiB, a digest of the output and its size of one run on the text, a file's name.
+
+    The memory is no less than this process's own when it starts the command, which therefore has to be small.
+    """
     with open(text, "rb") as source, tempfile.TemporaryFile() as out:
         begin = time.perf_counter()
         child = subprocess.Popen(command, stdin=source, stdout=out)
@@ -20,5 +23,6 @@ def measure(command, text):
         child.returncode = os.waitstatus_to_exitcode(status)
         if child.returncode != 0:
             sys.exit(f"{command[0]} ended with status {child.returncode}")
+        size = out.seek(0, os.SEEK_END)
         out.seek(0)
-        return seconds, used.ru_maxrss, hashlib.file_digest(out, "sha256").digest()
+        return seconds, used.ru_maxrss, hashlib.file_digest(out, "sha256").digest(), size
