@@ -253,6 +253,19 @@ fn one_segment_is_filled_and_gives_its_newest(rt: HostRuntime) -> Result<(), Fai
 }
 
 #[test]
+fn the_first_segment_with_items_gives_its_newest(rt: HostRuntime) -> Result<(), Fail> {
+    let (bag, mut pass) = alone(rt.alloc(), 1, 2, 2)?;
+    assert_eq!(rt; add_again(&bag, &mut pass, 1), Ok(()));
+    assert_eq!(rt; add_again(&bag, &mut pass, 2), Ok(()));
+    assert_eq!(rt; add_again(&bag, &mut pass, 3), Ok(()));
+    assert_eq!(rt; bag.try_remove(&mut pass), Ok(Some(2)));
+    assert_eq!(rt; bag.try_remove(&mut pass), Ok(Some(1)));
+    assert_eq!(rt; bag.try_remove(&mut pass), Ok(Some(3)));
+    assert_eq!(rt; bag.try_remove(&mut pass), Ok(None));
+    Ok(())
+}
+
+#[test]
 fn rooms_at_the_borders_of_blocks_are_filled(rt: HostRuntime) -> Result<(), Fail> {
     for room in [1, 31, 32, 33] {
         let (bag, mut pass) = alone(rt.alloc(), 1, 2, room)?;
