@@ -3,3 +3,4 @@ pub mod MadeTexts
 pub mod Offers
 pub mod ReachedFrom
 pub mod Runs
+pub mod WholeInputs

@@ -43,6 +43,12 @@ abbrev pub Exceeds : Command → List ℕ → Type 0 → TooKind → ℕ → Typ
 Exceeds (Plain source) read ended kind line = ⊥
 Exceeds Run read ended kind line = ScriptIsRefused read ended (TooLargeScript kind line)
 
+-- the status is that of the refusal of the input, which is whole
+abbrev pub Rejects : Command → List ℕ → Status → Type 0
+Rejects command input (BadInput line) = Refuses command input (Unit {0}) line
+Rejects command input (TooLarge kind line) = Exceeds command input (Unit {0}) kind line
+Rejects command input status = ⊥
+
 -- no refusal stands at a byte of what was read, and a script has no line `end` in it
 abbrev pub Admits : Command → List ℕ → Type 0
 Admits (Plain source) read = CanGoOn read
@@ -80,6 +86,8 @@ pub record Ran (command : Command) (source : SourceChange) (sink : SinkChange) (
   pub asked : WasAskedFor command read
   -- An accepted input comes to its end: nothing but a failure or want of memory keeps its whole text from being written.
   pub complete : (input : List ℕ) → source.left_before ≡ Some input → Accepts command input → (SourceFailed source → ⊥) → (SinkFailed sink → ⊥) → (status ≡ Done) ⊎ (status ≡ OutOfMemory)
+  -- An input that isn't accepted ends in its refusal: nothing but a failure or want of memory comes before that.
+  pub refused : (input : List ℕ) → source.left_before ≡ Some input → (Accepts command input → ⊥) → (SourceFailed source → ⊥) → (status ≡ OutOfMemory) ⊎ Rejects command input status
   -- No count falls.
   pub source_count : source.faults_before ≤ source.faults_after
   pub sink_count : sink.faults_before ≤ sink.faults_after

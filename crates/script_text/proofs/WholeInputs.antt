@@ -9,7 +9,7 @@ use Rattle.script_text.specs.declared.faults.ScriptFault.TheVariants.{BadLine, T
 use Rattle.script_text.specs.Lines.{IsLine}
 use Rattle.script_text.specs.Reading.{Reading, IsExcuse, IsRefusal}
 use Rattle.script_text.specs.Scripts.{PlainScript, plain_script}
-use Rattle.script_text.specs.ScriptText.{beginning, counts, IsScriptText, HasScript, IsCause, IsRefused, NamesLine}
+use Rattle.script_text.specs.ScriptText.{beginning, counts, IsScriptText, HasScript, IsCause, IsRefused, NamesLine, MeansOne}
 use Rattle.script_text.proofs.OneAnswer.{Halt, halt_one, IsTextEnd}
 
 -- a text is at the front of its input
@@ -79,9 +79,12 @@ one_refusal input fault other one two = same_Err (halt_one one.opened.says two.o
     same_Err : ◌≡◌ {A = Result PlainScript ScriptFault} (Err fault) (Err other) → fault ≡ other
     same_Err same = cc
 
+pub means_one : (input : List ℕ) → MeansOne input
+means_one input = record { script = one_script input; refusal = one_refusal input; either = not_refused input }
+
 -- ---- what was read of an input
 
-script_of_input : (input read rest : List ℕ) (script : PlainScript) → input ≡ read ++ rest → HasScript read (rest ≡ []) script → HasScript input (Unit {0}) script
+pub script_of_input : (input read rest : List ℕ) (script : PlainScript) → input ≡ read ++ rest → HasScript read (rest ≡ []) script → HasScript input (Unit {0}) script
 script_of_input input read rest script parts has = record { text = has.text; is_text = has.is_text; front = by has.front }
   where
     by : ((more : List ℕ) × (read ≡ has.text ++ 10 ∷ more)) ⊎ ((rest ≡ []) × (read ≡ has.text)) → ((more : List ℕ) × (input ≡ has.text ++ 10 ∷ more)) ⊎ (Unit {0} × (input ≡ has.text))
@@ -92,7 +95,7 @@ cause_of_input : (stage : Stage) (part : List ℕ) (counted size : ℕ) (tail re
 cause_of_input stage part counted size [] rest fault cause = subst (λ (r : List ℕ). IsCause stage part counted size (Unit {0}) r fault) (sym cause.0) (tt, cause.1)
 cause_of_input stage part counted size (byte ∷ tail) rest fault cause = cause
 
-refusal_of_input : (input read rest : List ℕ) (fault : ScriptFault) → input ≡ read ++ rest → IsRefused read (rest ≡ []) fault → IsRefused input (Unit {0}) fault
+pub refusal_of_input : (input read rest : List ℕ) (fault : ScriptFault) → input ≡ read ++ rest → IsRefused read (rest ≡ []) fault → IsRefused input (Unit {0}) fault
 refusal_of_input input read rest fault parts refused = record {
   front = refused.front;
   rest = refused.rest ++ rest;

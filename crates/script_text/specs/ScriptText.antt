@@ -161,3 +161,9 @@ pub record IsRefused (read : List ℕ) (ended : Type 0) (fault : ScriptFault) : 
   pub opened : IsOpen front
   pub cause : IsCause opened.at.stage opened.part (sum_by counts opened.says) (length front) ended rest fault
   pub names_line : NamesLine fault (length opened.says + 1)
+
+-- An input means one thing: it has one script at most, or one refusal at most, and not both.
+pub record MeansOne (input : List ℕ) : Type 0 where
+  pub script : (script other : PlainScript) → HasScript input (Unit {0}) script → HasScript input (Unit {0}) other → script ≡ other
+  pub refusal : (fault other : ScriptFault) → IsRefused input (Unit {0}) fault → IsRefused input (Unit {0}) other → fault ≡ other
+  pub either : (script : PlainScript) (fault : ScriptFault) → HasScript input (Unit {0}) script → IsRefused input (Unit {0}) fault → ⊥

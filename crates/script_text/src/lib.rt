@@ -9,6 +9,7 @@ mod bytes;
 mod drafts;
 mod faults;
 mod grammar;
+mod laws;
 mod lines;
 mod places;
 mod reader;
@@ -18,6 +19,7 @@ mod scripts;
 mod writer;
 
 pub use faults::ScriptFault;
+pub use laws::inputs_mean_one;
 pub use reader::read_script;
 pub use replies::{Left, Replies, Reply};
 pub use scripts::{Call, ObjectLine, Round, Script};

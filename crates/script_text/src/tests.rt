@@ -2,8 +2,8 @@ ghost use Rattle.std.specs.Prelude.{IfOk};
 ghost use Rattle.script_text.specs.Scripts.{IsValid, plain_script};
 
 use crate::{
-    Call, Left, ObjectLine, Replies, Reply, Script, ScriptFault, read_script, write_replies,
-    write_script,
+    Call, Left, ObjectLine, Replies, Reply, Script, ScriptFault, inputs_mean_one, read_script,
+    write_replies, write_script,
 };
 use shared_io::{SureSource, TooKind};
 use std::alloc::Global;
@@ -217,4 +217,9 @@ fn counts_calls(rt: HostRuntime) -> Result<(), Fail> {
         })
     );
     Ok(())
+}
+
+#[test]
+fn the_law_of_inputs_holds() {
+    inputs_mean_one();
 }
