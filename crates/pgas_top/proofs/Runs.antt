@@ -7,7 +7,7 @@ use Rattle.shared_io.specs.declared.sinks.SinkFault.TheVariants as lost
 use Rattle.pgas_top.specs.Devices.{SourceChange, SinkChange, SinkFailed, IsUnwritten}
 use Rattle.pgas_top.specs.Outcome.{Completes, Ends, IsFrontOf, Ran}
 use Rattle.pgas_top.specs.MadeText.{IsMadeText}
-use Rattle.pgas_top.specs.Statuses.{IsStatusOfSink}
+use Rattle.pgas_top.specs.Statuses.{sink_status}
 use Rattle.pgas_top.specs.declared.commands.Command.{Command}
 use Rattle.pgas_top.proofs.WholeInputs.{refused}
 use Rattle.pgas_top.specs.declared.statuses.Status.{Status}
@@ -72,7 +72,7 @@ ran_done command source sink text made taken faults refusals = ran_made command 
 -- the front of the text was written, and then the sink refused
 pub ran_cut : (command : Command) (source : SourceChange) (sink : SinkChange) (text : Vec ℕ Global) (count : ℕ) (fault : SinkFault) (status : Status) → IsMadeText command source (Ok text)
     → Appends sink.taken_before sink.taken_after (take count text.items) → sink.faults_before ≤ sink.faults_after → sink.refusals_before ≤ sink.refusals_after
-    → (fault ≡ lost.Failed → SinkFailed sink) → IsStatusOfSink fault status → Ran command source sink status
+    → (fault ≡ lost.Failed → SinkFailed sink) → status ≡ sink_status fault → Ran command source sink status
 ran_cut command source sink text count lost.Failed status made taken faults refusals failed is =
     let front : (whole : List ℕ) × Completes command made.read (IsAtEnd source.left_after) whole × IsFrontOf (take count text.items) whole =
     (text.items, made.says, (drop count text.items, sym (take-append-drop count text.items))) in

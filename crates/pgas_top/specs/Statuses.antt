@@ -48,19 +48,19 @@ pub record IsTold (faults : SinkChange) (line : List ℕ) : Type 0 where
   pub whole : (count ≡ length line) ⊎ (SinkFailed faults ⊎ SinkRefused faults)
 
 -- the status that a fault of the reader of edges comes out as
-abbrev pub IsStatusOf : EdgeFault → Status → Type 0
-IsStatusOf (edge.BadLine line) status = status ≡ BadInput line
-IsStatusOf edge.ReadFault status = status ≡ ReadFault
-IsStatusOf edge.OutOfMemory status = status ≡ OutOfMemory
+abbrev pub edge_status : EdgeFault → Status
+edge_status (edge.BadLine line) = BadInput line
+edge_status edge.ReadFault = ReadFault
+edge_status edge.OutOfMemory = OutOfMemory
 
 -- the status that a fault of the reader of scripts comes out as
-abbrev pub IsStatusOfScript : ScriptFault → Status → Type 0
-IsStatusOfScript (script.BadLine line) status = status ≡ BadInput line
-IsStatusOfScript (script.TooLarge kind line) status = status ≡ TooLarge kind line
-IsStatusOfScript script.ReadFault status = status ≡ ReadFault
-IsStatusOfScript script.OutOfMemory status = status ≡ OutOfMemory
+abbrev pub script_status : ScriptFault → Status
+script_status (script.BadLine line) = BadInput line
+script_status (script.TooLarge kind line) = TooLarge kind line
+script_status script.ReadFault = ReadFault
+script_status script.OutOfMemory = OutOfMemory
 
 -- the status that a fault of the sink comes out as
-abbrev pub IsStatusOfSink : SinkFault → Status → Type 0
-IsStatusOfSink sink.Failed status = status ≡ WriteFault
-IsStatusOfSink sink.Memory status = status ≡ OutOfMemory
+abbrev pub sink_status : SinkFault → Status
+sink_status sink.Failed = WriteFault
+sink_status sink.Memory = OutOfMemory

@@ -74,9 +74,10 @@ impl Status {
 }
 
 impl From<EdgeFault> for Status {
-    ghost use Rattle.pgas_top.specs.Statuses.{IsStatusOf};
+    ghost use Rattle.std.specs.Prelude.{◌≡◌};
+    ghost use Rattle.pgas_top.specs.Statuses.{edge_status};
 
-    ghost from_gives = { IsStatusOf };
+    ghost from_gives = { λ fault status. status ≡ edge_status fault };
 
     fn from(fault: EdgeFault) -> Status {
         match fault {
@@ -88,9 +89,10 @@ impl From<EdgeFault> for Status {
 }
 
 impl From<ScriptFault> for Status {
-    ghost use Rattle.pgas_top.specs.Statuses.{IsStatusOfScript};
+    ghost use Rattle.std.specs.Prelude.{◌≡◌};
+    ghost use Rattle.pgas_top.specs.Statuses.{script_status};
 
-    ghost from_gives = { IsStatusOfScript };
+    ghost from_gives = { λ fault status. status ≡ script_status fault };
 
     fn from(fault: ScriptFault) -> Status {
         match fault {
@@ -114,9 +116,10 @@ impl From<AllocError> for Status {
 }
 
 impl From<SinkFault> for Status {
-    ghost use Rattle.pgas_top.specs.Statuses.{IsStatusOfSink};
+    ghost use Rattle.std.specs.Prelude.{◌≡◌};
+    ghost use Rattle.pgas_top.specs.Statuses.{sink_status};
 
-    ghost from_gives = { IsStatusOfSink };
+    ghost from_gives = { λ fault status. status ≡ sink_status fault };
 
     fn from(fault: SinkFault) -> Status {
         match fault {

@@ -23,95 +23,96 @@ fn bad(line: u64) -> ScriptFault {
     ScriptFault::BadLine { line }
 }
 
-// Each line of the grammar, with what is refused of it.
+// Texts that are refused, and at which line: something is wrong of each line of the grammar.
+const REFUSED: [(&[u8], u64); 50] = [
+    (b"", 1),
+    (b"\n", 2),
+    (b"# c", 1),
+    (b"pgaz", 1),
+    (b"pgas", 1),
+    (b"pgas \n", 1),
+    (b"pgas 2", 1),
+    (b"pgas 01", 1),
+    (b"pgas 1 1", 1),
+    (b"pgas 1 #", 1),
+    (b"pgas 1\n", 2),
+    (b"pgas 1\npgas 1\n", 2),
+    (b"pgas 1\nobject\n", 2),
+    (b"pgas 1\nobject epochs", 2),
+    (b"pgas 1\nobject list 0\n", 2),
+    (b"pgas 1\nobject list 17", 2),
+    (b"pgas 1\nobject list 1 1\n", 2),
+    (b"pgas 1\nobject list 1 1048577", 2),
+    (b"pgas 1\nobject list 16 524289", 2),
+    (b"pgas 1\nobject list 16 524288 1", 2),
+    (b"pgas 1\nobject list 16 524288 3", 2),
+    (b"pgas 1\nobject list 1 2 1\n", 2),
+    (b"pgas 1\nobject list 1 2 4097", 2),
+    (b"pgas 1\nobject list 1 2 2 2", 2),
+    (b"pgas 1\nobject bag 1 65", 2),
+    (b"pgas 1\nobject bag 1 64 16777217", 2),
+    (b"pgas 1\nobject bag 1 64 0\n", 2),
+    (b"pgas 1\nobject deque 1 16777217", 2),
+    (b"pgas 1\nobject deque 1\n", 2),
+    (b"pgas 1\nobject deque 1 1\ncallers 0\n", 3),
+    (b"pgas 1\nobject deque 1 1\ncallers 2", 3),
+    (b"pgas 1\nobject deque 1 1\ncallers 1\n", 4),
+    (b"pgas 1\nobject deque 1 1\ncallers 1\npop_back", 4),
+    (b"pgas 1\nobject deque 1 1\ncallers 1\ncaller 1", 4),
+    (
+        b"pgas 1\nobject deque 1 1\ncallers 1\ncaller 0\n# c\nadd",
+        6,
+    ),
+    (
+        b"pgas 1\nobject deque 1 1\ncallers 1\ncaller 0\npush_back\n",
+        5,
+    ),
+    (
+        b"pgas 1\nobject deque 1 1\ncallers 1\ncaller 0\npush_back 18446744073709551616",
+        5,
+    ),
+    (
+        b"pgas 1\nobject deque 1 1\ncallers 1\ncaller 0\npush_back 1 2",
+        5,
+    ),
+    (
+        b"pgas 1\nobject deque 1 1\ncallers 1\ncaller 0\ntry round",
+        5,
+    ),
+    (b"pgas 1\nobject deque 1 1\ncallers 1\ncaller 0\ntry\n", 5),
+    (
+        b"pgas 1\nobject deque 1 1\ncallers 1\ncaller 0\nround\npop_back",
+        6,
+    ),
+    (
+        b"pgas 1\nobject deque 1 1\ncallers 1\ncaller 0\npush_back 1\nend x",
+        6,
+    ),
+    (
+        b"pgas 1\nobject bag 1 1 1\ncallers 1\ncaller 0\nremove 1",
+        5,
+    ),
+    (b"pgas 1\nobject bag 1 1 1\ncallers 1\ncaller 0\nlen", 5),
+    (b"pgas 1\nobject list 1 2 2\ncallers 1\ncaller 0\nread\n", 5),
+    (
+        b"pgas 1\nobject list 1 2 2\ncallers 1\ncaller 0\nwrite 1\n",
+        5,
+    ),
+    (
+        b"pgas 1\nobject list 1 2 2\ncallers 1\ncaller 0\nswap 1 2\n",
+        5,
+    ),
+    (
+        b"pgas 1\nobject list 1 2 2\ncallers 1\ncaller 0\nadd 1\n",
+        5,
+    ),
+    (b"pgas 1\nobject list 1 2 2\ncallers 1\ncaller 0\ngrow x", 5),
+    (b"pgas 1\nobject list 1 2 2\ncallers 1\ncaller 0\nlen 1", 5),
+];
+
 #[test]
 fn refuses_lines(rt: HostRuntime) -> Result<(), Fail> {
-    let rows: [(&[u8], u64); 50] = [
-        (b"", 1),
-        (b"\n", 2),
-        (b"# c", 1),
-        (b"pgaz", 1),
-        (b"pgas", 1),
-        (b"pgas \n", 1),
-        (b"pgas 2", 1),
-        (b"pgas 01", 1),
-        (b"pgas 1 1", 1),
-        (b"pgas 1 #", 1),
-        (b"pgas 1\n", 2),
-        (b"pgas 1\npgas 1\n", 2),
-        (b"pgas 1\nobject\n", 2),
-        (b"pgas 1\nobject epochs", 2),
-        (b"pgas 1\nobject list 0\n", 2),
-        (b"pgas 1\nobject list 17", 2),
-        (b"pgas 1\nobject list 1 1\n", 2),
-        (b"pgas 1\nobject list 1 1048577", 2),
-        (b"pgas 1\nobject list 16 524289", 2),
-        (b"pgas 1\nobject list 16 524288 1", 2),
-        (b"pgas 1\nobject list 16 524288 3", 2),
-        (b"pgas 1\nobject list 1 2 1\n", 2),
-        (b"pgas 1\nobject list 1 2 4097", 2),
-        (b"pgas 1\nobject list 1 2 2 2", 2),
-        (b"pgas 1\nobject bag 1 65", 2),
-        (b"pgas 1\nobject bag 1 64 16777217", 2),
-        (b"pgas 1\nobject bag 1 64 0\n", 2),
-        (b"pgas 1\nobject deque 1 16777217", 2),
-        (b"pgas 1\nobject deque 1\n", 2),
-        (b"pgas 1\nobject deque 1 1\ncallers 0\n", 3),
-        (b"pgas 1\nobject deque 1 1\ncallers 2", 3),
-        (b"pgas 1\nobject deque 1 1\ncallers 1\n", 4),
-        (b"pgas 1\nobject deque 1 1\ncallers 1\npop_back", 4),
-        (b"pgas 1\nobject deque 1 1\ncallers 1\ncaller 1", 4),
-        (
-            b"pgas 1\nobject deque 1 1\ncallers 1\ncaller 0\n# c\nadd",
-            6,
-        ),
-        (
-            b"pgas 1\nobject deque 1 1\ncallers 1\ncaller 0\npush_back\n",
-            5,
-        ),
-        (
-            b"pgas 1\nobject deque 1 1\ncallers 1\ncaller 0\npush_back 18446744073709551616",
-            5,
-        ),
-        (
-            b"pgas 1\nobject deque 1 1\ncallers 1\ncaller 0\npush_back 1 2",
-            5,
-        ),
-        (
-            b"pgas 1\nobject deque 1 1\ncallers 1\ncaller 0\ntry round",
-            5,
-        ),
-        (b"pgas 1\nobject deque 1 1\ncallers 1\ncaller 0\ntry\n", 5),
-        (
-            b"pgas 1\nobject deque 1 1\ncallers 1\ncaller 0\nround\npop_back",
-            6,
-        ),
-        (
-            b"pgas 1\nobject deque 1 1\ncallers 1\ncaller 0\npush_back 1\nend x",
-            6,
-        ),
-        (
-            b"pgas 1\nobject bag 1 1 1\ncallers 1\ncaller 0\nremove 1",
-            5,
-        ),
-        (b"pgas 1\nobject bag 1 1 1\ncallers 1\ncaller 0\nlen", 5),
-        (b"pgas 1\nobject list 1 2 2\ncallers 1\ncaller 0\nread\n", 5),
-        (
-            b"pgas 1\nobject list 1 2 2\ncallers 1\ncaller 0\nwrite 1\n",
-            5,
-        ),
-        (
-            b"pgas 1\nobject list 1 2 2\ncallers 1\ncaller 0\nswap 1 2\n",
-            5,
-        ),
-        (
-            b"pgas 1\nobject list 1 2 2\ncallers 1\ncaller 0\nadd 1\n",
-            5,
-        ),
-        (b"pgas 1\nobject list 1 2 2\ncallers 1\ncaller 0\ngrow x", 5),
-        (b"pgas 1\nobject list 1 2 2\ncallers 1\ncaller 0\nlen 1", 5),
-    ];
-    for (text, line) in rows {
+    for (text, line) in REFUSED {
         assert_eq!(rt; read(rt.alloc(), text).err(), Some(bad(line)));
     }
     Ok(())
