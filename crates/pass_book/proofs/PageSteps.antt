@@ -37,6 +37,21 @@ module _ {Call Reply : Type 0} where
     begins = prefix_trans page.seen h (h ++ e ∷ []) of.begins (prefix_more h (e ∷ []));
   }
 
+  -- the caller's own entries
+  pub grown_by : (c : ℕ) (h : List (Entry Call Reply)) (page : Page Call Reply) (es : List (Entry Call Reply)) → IsPageOf c h page → entries_of c es ≡ es
+      → IsPageOf c (h ++ es) record { mine = page.mine ++ es; seen = h ++ es }
+  grown_by c h page es of own =
+      let whole = ap (λ w. w ++ es) of.whole ∙ (ap (λ w. entries_of c h ++ w) (sym own) ∙ sym (entries_of-append c h es)) in
+      record { whole = whole; own = whole; begins = prefix_self (h ++ es) }
+
+  -- entries of others
+  pub grown_else : (c : ℕ) (h : List (Entry Call Reply)) (page : Page Call Reply) (es : List (Entry Call Reply)) → IsPageOf c h page → entries_of c es ≡ [] → IsPageOf c (h ++ es) page
+  grown_else c h page es of none = record {
+    whole = of.whole ∙ (sym (append-nil (entries_of c h)) ∙ (ap (λ w. entries_of c h ++ w) (sym none) ∙ sym (entries_of-append c h es)));
+    own = of.own;
+    begins = prefix_trans page.seen h (h ++ es) of.begins (prefix_more h es);
+  }
+
   -- a look at the whole history
   pub looked_whole : (c : ℕ) (h : List (Entry Call Reply)) (page : Page Call Reply) → IsPageOf c h page → IsPageOf c h (page_at h page)
   looked_whole c h page of = record { whole = of.whole; own = of.whole; begins = prefix_self h }

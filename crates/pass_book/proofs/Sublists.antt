@@ -2,6 +2,8 @@
 use Rattle.std.proofs.Common.{◌≡◌, ◌≢◌, ℕ, zero, suc, ◌+◌, ◌<◌, ◌≤◌, Bool, List, [], ◌∷◌, ◌++◌, length, cond, nat_eq, refl, ap, sym, ◌∙◌, arith, length-append, append_assoc, eq-eqb, ne_eqb, subst}
 use Rattle.std.proofs.lemmas.List.{append-nil, get_or-append-add}
 use Rattle.std.proofs.lemmas.List.Elements.{filter-append, All-append}
+use Rattle.std.specs.List.{All}
+use Rattle.std.proofs.Math.ListN.{get_or-append}
 use mathlib.Core.List.{IsPrefix}
 use Rattle.pass_book.specs.declared.entries.Entry.{Entry}
 use Rattle.pass_book.specs.Histories.{entries_of, IsOfOthers, IsOfCallers}
@@ -66,3 +68,25 @@ module _ {Call Reply : Type 0} where
   pub of_callers-rest : (n : ℕ) (xs ys : List (Entry Call Reply)) → IsOfCallers n (xs ++ ys) → IsOfCallers n ys
   of_callers-rest n xs ys all k d within =
       subst (λ (e : Entry Call Reply). e.caller < n) (get_or-append-add xs ys k d) (all (length xs + k) d (omega (arith, length-append xs ys)))
+
+  -- entries that are all the caller's
+  pub entries_of-all : (c : ℕ) (h : List (Entry Call Reply)) → All (λ (e : Entry Call Reply). e.caller ≡ c) h → entries_of c h ≡ h
+  entries_of-all c [] all = refl
+  entries_of-all c (e ∷ h) all =
+      ap (λ b. cond b (e ∷ entries_of c h) (entries_of c h)) (eq-eqb e.caller c (all 0 e (omega arith))) ∙ ap (λ l. e ∷ l) (entries_of-all c h (λ k d within. all (suc k) d (omega arith)))
+
+  -- entries that are all another's
+  pub entries_of-none : (c : ℕ) (h : List (Entry Call Reply)) → All (λ (e : Entry Call Reply). e.caller ≢ c) h → entries_of c h ≡ []
+  entries_of-none c [] all = refl
+  entries_of-none c (e ∷ h) all =
+      ap (λ b. cond b (e ∷ entries_of c h) (entries_of c h)) (ne_eqb e.caller c (all 0 e (omega arith))) ∙ entries_of-none c h (λ k d within. all (suc k) d (omega arith))
+
+  -- a caller that is not one of the callers has no entry
+  pub entries_of-past : (n c : ℕ) (h : List (Entry Call Reply)) → n ≤ c → IsOfCallers n h → entries_of c h ≡ []
+  entries_of-past n c h past all = entries_of-none c h (λ k d within same. let below = all k d within in omega arith)
+
+  -- a beginning is of the same callers
+  pub of_callers-begin : (n : ℕ) (xs ys : List (Entry Call Reply)) → IsPrefix xs ys → IsOfCallers n ys → IsOfCallers n xs
+  of_callers-begin n xs ys p all k d within =
+      subst (λ (e : Entry Call Reply). e.caller < n) (get_or-append xs p.0 d k within)
+      (subst (λ (l : List (Entry Call Reply)). IsOfCallers n l) (sym p.1) all k d (omega (arith, length-append xs p.0)))

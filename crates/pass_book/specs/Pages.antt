@@ -66,6 +66,16 @@ module _ {Call Reply State : Type 0} (opens : State → Type 0) (step : State �
     pub own : IsPage caller new
     pub legal : IsLegal opens step start new.seen
 
+  -- A call with these entries, none or several: what is seen becomes what was seen and then entries of the caller and of others, of which the
+  -- caller's are just these, in their order. It is a legal history, and the caller's list gains just these
+  pub record Gains (start : State) (caller : ℕ) (old new : Page Call Reply) (entries : List (Entry Call Reply)) : Type 0 where
+    pub more : List (Entry Call Reply)
+    pub seen : new.seen ≡ old.seen ++ more
+    pub among : entries_of caller more ≡ entries
+    pub mine : new.mine ≡ old.mine ++ entries
+    pub own : IsPage caller new
+    pub legal : IsLegal opens step start new.seen
+
   -- a call without an entry: the caller's list is as it was, and what it had seen begins what it has seen, a legal history
   pub record EntersNothing (start : State) (caller : ℕ) (old new : Page Call Reply) : Type 0 where
     pub mine : new.mine ≡ old.mine
@@ -80,13 +90,17 @@ module _ {Call Reply State : Type 0} (opens : State → Type 0) (step : State �
     pub pages : (caller : ℕ) (page : Page Call Reply) → slice_get book.pages caller ≡ Some page → IsPageOf caller book.history page
 
 module _ {Call Reply State : Type 0} where
-  -- the book after an entry at the end of its history, which the caller has seen whole
-  abbrev pub with_entry : Book Call Reply State → Page Call Reply → Entry Call Reply → Book Call Reply State
-  with_entry book page e = record {
+  -- the book after entries of one caller at the end of its history, which the caller has seen whole
+  abbrev pub with_entries : Book Call Reply State → ℕ → Page Call Reply → List (Entry Call Reply) → Book Call Reply State
+  with_entries book caller page entries = record {
     start = book.start;
-    history = book.history ++ e ∷ [];
-    pages = slice_set book.pages e.caller record { mine = page.mine ++ e ∷ []; seen = book.history ++ e ∷ [] };
+    history = book.history ++ entries;
+    pages = slice_set book.pages caller record { mine = page.mine ++ entries; seen = book.history ++ entries };
   }
+
+  -- the book after one entry at the end of its history, which the caller has seen whole
+  abbrev pub with_entry : Book Call Reply State → Page Call Reply → Entry Call Reply → Book Call Reply State
+  with_entry book page e = with_entries book e.caller page (e ∷ [])
 
   -- the book after the caller has taken in a note
   abbrev pub with_note : Book Call Reply State → ℕ → Page Call Reply → List (Entry Call Reply) → Book Call Reply State

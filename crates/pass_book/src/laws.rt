@@ -1,5 +1,5 @@
 //! The laws of histories, for any object.
-ghost use Rattle.pass_book.specs.Laws.{EntryAdded, NoteTaken, ShorterBeginsLonger, ListIsSublist};
+ghost use Rattle.pass_book.specs.Laws.{EntryAdded, EntriesAdded, NoteTaken, ShorterBeginsLonger, ListIsSublist};
 
 use crate::objects::Object;
 
@@ -7,6 +7,12 @@ use crate::objects::Object;
 /// legal. That caller's page gains it and has seen the whole history, and no other page changes.
 pub fn entry_added<O: Object>()
     ensures { EntryAdded O.opens O.step }
+{}
+
+/// Entries of one caller at the end of a legal history, where the object may so step, keep the book legal.
+/// That caller's page gains them and has seen the whole history, and no other page changes.
+pub fn entries_added<O: Object>()
+    ensures { EntriesAdded O.opens O.step }
 {}
 
 /// A caller that takes in a note, which has seen a beginning of the history, keeps the book legal.

@@ -15,7 +15,7 @@ mod laws;
 mod objects;
 
 pub use entries::{Entry, Look};
-pub use laws::{entry_added, list_is_sublist, note_taken, shorter_begins_longer};
+pub use laws::{entries_added, entry_added, list_is_sublist, note_taken, shorter_begins_longer};
 pub use objects::Object;
 
 #[cfg(test)]

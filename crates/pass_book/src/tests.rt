@@ -20,6 +20,7 @@ impl Object for Adder {
 #[test]
 fn the_laws_hold_of_an_object() {
     entry_added::<Adder>();
+    entries_added::<Adder>();
     note_taken::<Adder>();
     shorter_begins_longer::<Adder>();
     list_is_sublist::<Adder>();

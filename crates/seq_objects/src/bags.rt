@@ -1,6 +1,6 @@
 ghost use Rattle.std.specs.Prelude.{◌≡◌, ℕ, List, [], ◌∷◌, ◌++◌, IfOk, OnErr, IsOk};
-ghost use Rattle.seq_objects.specs.BagSteps.{BagStep};
 
+use pass_book::Object;
 use std::alloc::{AllocError, Global};
 use std::marker::Model;
 
@@ -48,7 +48,7 @@ impl PlainBag {
     /// is as before.
     #[tactic(auto, using(crate::proofs::NewestLast::one_more, crate::proofs::NewestLast::one_fewer))]
     pub fn act(&mut self, call: BagCall) -> Result<BagReply, AllocError>
-        ensures step { IfOk result (λ reply. BagStep self.old call reply self.new) }
+        ensures step { IfOk result (λ reply. ⟦<PlainBag as Object>⟧.step self.old call reply self.new) }
         ensures newest { (item : ℕ) → result ≡ Ok (BagReply.Took item) → self.old ≡ self.new ++ item ∷ [] }
         ensures sure { call ≡ BagCall.Remove → IsOk result }
         ensures err { OnErr result (self.new ≡ self.old) }

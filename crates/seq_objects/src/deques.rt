@@ -2,6 +2,7 @@ ghost use Rattle.std.specs.Prelude.{◌≡◌, ◌↔◌, ℕ, ◌≤◌, ◌^�
 ghost use Rattle.seq_objects.specs.DequeSteps.{pop_reply, deque_reply, deque_after};
 
 use crate::double_ended_vec::DoubleEndedVec;
+use pass_book::Object;
 use std::alloc::{AllocError, Global};
 use std::marker::Model;
 
@@ -50,6 +51,7 @@ impl PlainDeque {
         requires most { capacity ≤ 2 ^ 24 }
         ensures capacity { result.capacity ≡ capacity }
         ensures items { result.items ≡ [] }
+        ensures opens { ⟦<PlainDeque as Object>⟧.opens result }
     {
         PlainDeque {
             capacity,
@@ -59,6 +61,7 @@ impl PlainDeque {
 
     /// Makes the call. Only a push that adds its item can want memory, and then the deque is as before.
     pub fn act(&mut self, call: DequeCall) -> Result<DequeReply, AllocError>
+        ensures step { IfOk result (λ reply. ⟦<PlainDeque as Object>⟧.step self.old call reply self.new) }
         ensures reply { IfOk result (λ reply. reply ≡ deque_reply self.old.capacity self.old.items call) }
         ensures after { let items = deque_after self.old.capacity self.old.items call in
             OnOk result (self.new ≡ record self.old { items = items }) }

@@ -11,9 +11,11 @@ mod deques;
 mod double_ended_vec;
 mod histories;
 mod kept_items;
+mod limits;
 mod lists;
 
 pub use bags::{BagCall, BagReply, PlainBag};
 pub use deques::{DequeCall, DequeReply, PlainDeque};
 pub use kept_items::{AnyItem, Keeps};
+pub use limits::{MOST_CALLERS, MOST_CAPACITY, MOST_LOCALES, MOST_ROOM, MOST_SEGMENTS};
 pub use lists::{ListCall, ListReply, PlainList};

@@ -1,6 +1,7 @@
 ghost use Rattle.std.specs.Prelude.{◌≡◌, ℕ, ◌+◌, ◌*◌, ◌%◌, ◌^◌, ◌≤◌, ◌==◌, List, OnOk, OnErr, IfOk, IsOk, IsTrue, ◌↔◌, if◌then◌else◌, length, vec_len, slice_index, slice_set};
 ghost use Rattle.seq_objects.specs.ListSteps.{opening_list, IsDefined, reply_at, list_reply, list_after};
 
+use pass_book::Object;
 use std::alloc::{AllocError, Global};
 use std::marker::Model;
 
@@ -68,6 +69,7 @@ impl PlainList {
         requires most { width ≤ 4096 }
         ensures width { IfOk result (λ list. list.width ≡ width) }
         ensures items { IfOk result (λ list. list.items ≡ opening_list width) }
+        ensures opens { IfOk result (λ list. ⟦<PlainList as Object>⟧.opens list) }
     {
         let mut items = Vec::new(alloc);
         items.resize(width as usize, 0)?;
@@ -77,6 +79,7 @@ impl PlainList {
     /// Makes the call. Only a Grow past the length can want memory, and then the list is as before.
     pub fn act(&mut self, call: ListCall) -> Result<ListReply, AllocError>
         requires { IsDefined self.old.width call }
+        ensures step { IfOk result (λ reply. ⟦<PlainList as Object>⟧.step self.old call reply self.new) }
         ensures reply { IfOk result (λ reply. reply ≡ list_reply self.old.width self.old.items call) }
         ensures after { let items = list_after self.old.width self.old.items call in
             OnOk result (self.new ≡ record self.old { items = items }) }

@@ -1,112 +1,133 @@
--- The state in which a deque is closed: the one history of all its callers, and the items in the ring.
-use Rattle.std.proofs.Common.{◌≡◌, ℕ, zero, suc, ◌+◌, ◌-◌, ◌%◌, ◌<◌, ◌≤◌, List, [], ◌∷◌, length, map, get_or, slice_index, ap, sym, ◌∙◌, subst, arith, ⊎_elim, mod-lt}
-use Rattle.std.specs.List.{All, Contains}
-use Rattle.std.proofs.lemmas.List.{ext_get_or}
-use mathlib.Core.Option.{some}
+-- A deque opens with an empty history, and closes with the items of the ring.
+use Rattle.std.proofs.Common.{◌≡◌, ℕ, zero, suc, ◌+◌, ◌-◌, ◌*◌, ◌%◌, ◌<◌, ◌≤◌, true, List, [], length, map, get_or, slice_index, refl, ap, sym, ◌∙◌, subst, arith, ⊎_elim, mod-lt, IsTrue}
+use Rattle.std.specs.Prelude.{replicate}
+use Rattle.std.specs.List.{All}
+use Rattle.std.proofs.lemmas.List.{ext_get_or, length-replicate}
+use Rattle.std.proofs.lemmas.List.Elements.{All-nil}
+use mathlib.Core.Option.{Option}
 use mathlib.Core.Logic.{dite}
 use native.Mathlib.Decide.{ℕ_discrete}
-use lib.ListN.{get_elem?}
-use Rattle.atomic_table.specs.Table.{State, Final, Seen}
+use Rattle.pass_book.specs.Histories.{IsOfCallers}
 use Rattle.pass_book.specs.Pages.{IsPageOf}
-use Rattle.pass_book.proofs.Sublists.{of_callers-le}
+use Rattle.seq_objects.specs.declared.deques.DequeCall.{DequeCall}
+use Rattle.seq_objects.specs.declared.deques.DequeReply.{DequeReply}
+use Rattle.seq_objects.specs.DequeSteps.{DequeState}
+use Rattle.seq_objects.specs.Meanings.{DequeOpens, DequeSteps}
+use Rattle.pass_table.specs.declared.passes.Pass.{Pass}
+use Rattle.pass_table.specs.declared.tables.PassTable.{PassTable}
+use Rattle.pass_table.specs.Terms.{Moment}
+use Rattle.pass_table.specs.Steps.{FirstShows}
+use Rattle.pass_table.specs.Passes.{plan_of, caller_of, page}
+use Rattle.pass_table.specs.Openings.{AreOfAllCallers}
+use Rattle.pass_table.specs.Closings.{ClosesWith as TableCloses}
+use Rattle.pass_table.specs.Looks.{HaveLooked}
+use Rattle.pass_table.proofs.LooksBack.{last_look, pages_before}
+use Rattle.shared_deque.specs.declared.layout.Word.{Word}
+use Rattle.shared_deque.specs.declared.layout.Word.TheVariants.{Ends}
+use Rattle.shared_deque.specs.declared.clients.Plan.{Plan}
+use Rattle.shared_deque.specs.declared.clients.Stage.{Stage}
+use Rattle.shared_deque.specs.declared.clients.Stage.TheVariants.{Idle}
 use Rattle.shared_deque.specs.declared.deques.Deque.{Deque}
-use Rattle.shared_deque.specs.declared.passes.DequePass.{DequePass}
-use Rattle.shared_deque.specs.declared.views.Plan.{Plan}
-use Rattle.shared_deque.specs.declared.views.Role.TheVariants.{Caller}
-use Rattle.shared_deque.specs.declared.views.Stage.TheVariants.{Idle}
-use Rattle.shared_deque.specs.declared.views.View.{View}
-use Rattle.shared_deque.specs.Words.{turn_in, value_in, head_in, size_in}
-use Rattle.shared_deque.specs.Counted.{DequeEntry, LeavesItems, left_of, head_from}
-use Rattle.shared_deque.specs.Rule.{page_of, page_joined, IsAt, HasNoCell, JoinedFits, Kept}
-use Rattle.shared_deque.specs.Passes.{caller_of, page, AreOfAllCallers}
-use Rattle.shared_deque.specs.Closings.{ClosesWith, Gathered, ReadsRing}
-use Rattle.shared_deque.proofs.Logs.{sizes, all_at}
-use Rattle.shared_deque.proofs.Seats.{caller_fits, caller_knows}
+use Rattle.shared_deque.specs.Layout.{owner_in, value_in, owner_place, value_place, head_in, size_in}
+use Rattle.shared_deque.specs.Counted.{DequeEntry, LeavesItems, PushesKept, left_of, head_from, deque_with}
+use Rattle.shared_deque.specs.Rule.{HasNoCell, IsAt, DequeRule, deque_terms}
+use Rattle.shared_deque.specs.Closed.{ClosesWith, ReadsRing}
+use Rattle.shared_deque.proofs.Logs.{sizes, counted}
+use Rattle.shared_deque.proofs.KindSteps.{idle_is}
 
--- one of the list has this number, and what holds of each holds of it
-contained : {A : Type 0} (f : A → ℕ) (P : A → Type 0) (xs : List A) (c : ℕ) → All P xs → Contains (map f xs) c → (a : A) × P a × (f a ≡ c)
-contained f P [] c all has = absurd (omega (arith, has.1))
-contained f P (x ∷ xs) c all (zero, below, is) = (x, all zero x (omega arith), is)
-contained f P (x ∷ xs) c all (suc k, below, is) = contained f P xs c (λ j d within. all (suc j) d (omega arith)) (k, omega arith, is)
+all_zero : (n i : ℕ) → let none : ℕ = 0 in get_or (replicate n none) i none ≡ none
+all_zero zero i = refl
+all_zero (suc n) zero = refl
+all_zero (suc n) (suc i) = all_zero n i
 
-module _ {K : Type 0} (keeps : ℕ → Type 0) (plan : Plan K) (s : State Unit (View K)) (kept : Kept keeps plan s) (id : ℕ) (v : View K)
-    (here : get_elem? s.views id ≡ some v) (role : v.role ≡ Caller) (idle : v.stage ≡ Idle) where
-  -- the pass has just its caller's entries, and has seen a beginning of the history
-  page_fits : (p : DequePass K) → Gathered v p → IsPageOf (caller_of p) kept.history (page p)
-  page_fits p has =
-      let fits = caller_fits keeps plan s kept id v here role in
-      ⊎_elim
-      (λ t. subst (λ q. IsPageOf (caller_of p) kept.history q) t.1 (subst (λ c. IsPageOf c kept.history (page_of v)) t.0 fits.page))
-      (λ t.
-      let one = all_at (JoinedFits (turn_in s.words) v.capacity kept.made kept.seat kept.history id) v.joined t.0 t.1 fits.joined t.2 in
-      subst (λ q. IsPageOf (caller_of p) kept.history q) t.4 (subst (λ c. IsPageOf c kept.history (page_joined t.1)) t.3 one.page))
-      has
+module _ {K : Type 0} (keeps : K → ℕ → Type 0) (plan : Plan K) where
+  -- the rule holds of a new table
+  opens : 0 < plan.capacity → plan.capacity ≤ 16777216 → (homes : List (Option Unit))
+      → DequeRule keeps plan record { words = replicate (2 * plan.capacity + 1) 0; homes = homes; history = []; parts = λ _. Idle }
+  opens some_cell most homes =
+      let n : ℕ = 2 * plan.capacity + 1 in record {
+        has = λ _. 0;
+        some_cell = some_cell;
+        most_cells = most;
+        wide = length-replicate n 0;
+        log = record { legal = (refl, refl); calls_kept = All-nil _; items_kept = All-nil (keeps plan.keeper); short = omega arith; head_within = some_cell };
+        ends = all_zero n 0;
+        laid = λ j below. absurd (omega arith);
+        cells = λ cell within. record { named = (let z = all_zero n (owner_place cell) in omega arith); stored = λ free. all_zero n (value_place cell) };
+        stages = λ c below cell within named. let z = all_zero n (owner_place cell) in omega arith;
+      }
 
-  -- no cell's turn names the pass's caller
-  pass_rests : (p : DequePass K) → Gathered v p → HasNoCell (turn_in s.words) plan.capacity (caller_of p)
-  pass_rests p has =
-      let fits = caller_fits keeps plan s kept id v here role in
-      let knows = caller_knows keeps plan s kept id v here role in
-      let at : HasNoCell (turn_in s.words) v.capacity v.number = subst (λ st. IsAt (turn_in s.words) (value_in s.words) kept.has v st) idle fits.at in
-      subst (λ n. HasNoCell (turn_in s.words) n (caller_of p)) knows.0
-      (⊎_elim
-      (λ t. subst (λ c. HasNoCell (turn_in s.words) v.capacity c) t.0 at)
-      (λ t.
-      let one = all_at (JoinedFits (turn_in s.words) v.capacity kept.made kept.seat kept.history id) v.joined t.0 t.1 fits.joined t.2 in
-      subst (λ c. HasNoCell (turn_in s.words) v.capacity c) t.3 one.rests)
-      has)
+  -- the same, of words that are all 0
+  pub opens_with : (words : List ℕ) (homes : List (Option Unit)) → 0 < plan.capacity → plan.capacity ≤ 16777216 → words ≡ replicate (2 * plan.capacity + 1) 0
+      → DequeRule keeps plan record { words = words; homes = homes; history = []; parts = λ _. Idle }
+  opens_with words homes some_cell most zeros = subst (λ ws. DequeRule keeps plan record { words = ws; homes = homes; history = []; parts = λ _. Idle }) (sym zeros) (opens some_cell most homes)
 
-  module _ (passes : List (DequePass K)) (gathered : All (Gathered v) passes) (every : (c : ℕ) → c < plan.callers → Contains (map caller_of passes) c) where
-    -- so no cell's turn is anybody's
-    all_free : (cell : ℕ) → cell < plan.capacity → turn_in s.words cell ≡ 0
+  -- the ends word says how many items there are
+  pub first_shows : FirstShows (deque_terms keeps) plan
+  first_shows m rule = counted (keeps plan.keeper) plan.capacity rule.some_cell rule.most_cells m.history rule.log ∙ ap size_in (sym rule.ends)
+
+  module _ (m : Moment Unit DequeCall DequeReply Stage) (rule : DequeRule keeps plan m) (rest : (c : ℕ) → c < plan.callers → m.parts c ≡ Idle) where
+    -- where all callers rest, no cell is anybody's
+    all_free : (cell : ℕ) → cell < plan.capacity → owner_in m.words cell ≡ 0
     all_free cell within =
-        let named = (kept.cells cell within).named in
-        let most = kept.most_made in
-        dite (ℕ_discrete (turn_in s.words cell) 0) (λ free. free)
+        let named = (rule.cells cell within).named in
+        dite (ℕ_discrete (owner_in m.words cell) 0) (λ free. free)
         (λ taken.
-        let c : ℕ = turn_in s.words cell - 1 in
-        let one = contained caller_of (Gathered v) passes c gathered (every c (omega arith)) in
-        absurd (pass_rests one.0 one.1 cell within (let same = one.2 in omega arith)))
+        let c : ℕ = owner_in m.words cell - 1 in
+        let below : c < plan.callers = omega arith in
+        let none : HasNoCell (owner_in m.words) plan.capacity c =
+        subst (IsAt (owner_in m.words) (value_in m.words) rule.has plan.capacity plan.callers (slice_index m.words 0) c) (rest c below) (rule.stages c below) in
+        absurd (none cell within (omega arith)))
 
     -- the items are those of the ring
-    items_are : (items : List ℕ) → ReadsRing s.words plan.capacity items → left_of plan.capacity kept.history ≡ items
+    items_are : (items : List ℕ) → ReadsRing m.words plan.capacity items → left_of plan.capacity m.history ≡ items
     items_are items ring =
         let n : ℕ = plan.capacity in
-        let h : List DequeEntry = kept.history in
-        let both = sizes keeps n kept.made kept.some_cell kept.most_cells h kept.log in
-        let size : size_in (slice_index s.words 0) ≡ length (left_of n h) = ap size_in kept.ends ∙ both.1 in
-        let head : head_in (slice_index s.words 0) ≡ head_from n 0 h = ap head_in kept.ends ∙ both.0 in
+        let h : List DequeEntry = m.history in
+        let both = sizes (keeps plan.keeper) n rule.some_cell rule.most_cells h rule.log in
+        let size : size_in (slice_index m.words 0) ≡ length (left_of n h) = ap size_in rule.ends ∙ both.1 in
+        let head : head_in (slice_index m.words 0) ≡ head_from n 0 h = ap head_in rule.ends ∙ both.0 in
         let long : length (left_of n h) ≡ length items = sym (ring.count ∙ size) in
         ext_get_or 0 (left_of n h) items long (λ j below.
         let cell : ℕ = (head_from n 0 h + j) % n in
-        let within : cell < n = mod-lt (head_from n 0 h + j) kept.some_cell in
-        let stored : value_in s.words cell ≡ kept.has cell = (kept.cells cell within).stored (all_free cell within) in
-        let read : slice_index items j ≡ value_in s.words cell = ring.each j (omega arith) ∙ ap (λ k. value_in s.words ((k + j) % n)) head in
-        kept.laid j below ∙ (sym stored ∙ sym read))
+        let within : cell < n = mod-lt (head_from n 0 h + j) rule.some_cell in
+        let stored : value_in m.words cell ≡ rule.has cell = (rule.cells cell within).stored (all_free cell within) in
+        let read : slice_index items j ≡ value_in m.words cell = ring.each j (omega arith) ∙ ap (λ k. value_in m.words ((k + j) % n)) head in
+        rule.laid j below ∙ (sym stored ∙ sym read))
 
-module _ {K : Type 0} (keeps : ℕ → Type 0) (d : Deque K) where
-  -- the ends count no more items than there are cells
-  pub closed_size : (words : List ℕ) (slots : List Unit) (id : ℕ) (v : View K) → Final (Seen (Kept keeps d.table.shared.key) id v) words slots → size_in (slice_index words 0) ≤ d.table.shared.key.capacity
-  closed_size words slots id v last =
-      let kept = last.1.0 in
-      let both = sizes keeps d.table.shared.key.capacity kept.made kept.some_cell kept.most_cells kept.history kept.log in
-      let size : size_in (slice_index words 0) ≡ length (left_of d.table.shared.key.capacity kept.history) = ap (λ ws. size_in (slice_index ws 0)) (sym last.2) ∙ (ap size_in kept.ends ∙ both.1) in
-      let short = kept.log.short in omega arith
+module _ {K C O : Type 0} (keeps : K → ℕ → Type 0) (t : PassTable C O Unit (Plan K) Stage Word DequeCall DequeReply DequeState) (old new : List (Pass Unit DequeCall DequeReply (Plan K) Stage Word)) (most : ℕ)
+    (looked : HaveLooked (deque_terms keeps) (plan_of t) most old new) (words : List ℕ) (slots : List Unit) (closes : TableCloses (deque_terms keeps) DequeOpens DequeSteps t new words slots) where
+  -- the ends count no more items than were read of
+  pub closed_size : AreOfAllCallers (deque_terms keeps) t old → size_in (slice_index words 0) ≤ most
+  closed_size every =
+      let rule = closes.rule in
+      let n : ℕ = (plan_of t).capacity in
+      let h : List DequeEntry = closes.book.history in
+      let both = sizes (keeps (plan_of t).keeper) n rule.some_cell rule.most_cells h rule.log in
+      let size : size_in (slice_index words 0) ≡ length (left_of n h) = ap size_in rule.ends ∙ both.1 in
+      let callers : IsOfCallers (plan_of t).callers h = subst (λ k. IsOfCallers k h) closes.callers closes.legal.callers in
+      let pages : All (λ q. IsPageOf (caller_of q) h (page q)) new = λ k d within. closes.legal.pages _ _ (closes.each k d within) in
+      ⊎_elim
+      (λ none. let empty : length (left_of n h) ≡ 0 = ap (λ l. length (left_of n l)) none in omega arith)
+      (λ t'. let counts : length (left_of n h) ≡ size_in t'.0 = t'.1 in let least = t'.2 in omega arith)
+      (last_look (deque_terms keeps) DequeOpens DequeSteps (plan_of t) t most old new looked h callers pages every)
 
-  -- the last state shows the one history
-  pub closes : (words : List ℕ) (slots : List Unit) (id : ℕ) (v : View K) (passes : List (DequePass K)) (items : List ℕ) (cells : ℕ) → Final (Seen (Kept keeps d.table.shared.key) id v) words slots
-      → v.role ≡ Caller → v.stage ≡ Idle → All (Gathered v) passes → AreOfAllCallers d passes → d.table.shared.key.capacity ≡ cells → ReadsRing words cells items → ClosesWith d passes keeps items
-  closes words slots id v passes items cells last role idle gathered every planned ring =
-      let plan : Plan K = d.table.shared.key in
-      let n : ℕ = plan.capacity in
-      let s : State Unit (View K) = last.0 in
-      let kept = last.1.0 in
-      let here = last.1.1 in
-      let ring' : ReadsRing s.words n items = subst (λ ws. ReadsRing ws n items) (sym last.2) (subst (λ k. ReadsRing words k items) (sym planned) ring) in
-      let same = items_are keeps plan s kept id v here role idle passes gathered every items ring' in record {
-        history = kept.history;
-        legal = subst (LeavesItems n kept.history) same kept.log.legal;
-        callers = of_callers-le kept.made plan.callers kept.history kept.most_made kept.log.callers;
-        kept = kept.log.calls_kept;
-        pages = λ k p below. page_fits keeps plan s kept id v here role idle (get_or passes k p) (gathered k p below);
+  -- the last state shows the one book
+  pub closes_deque : (d : Deque K) (items : List ℕ) (cells : ℕ) → plan_of d.table ≡ plan_of t → (plan_of t).capacity ≡ cells → ReadsRing words cells items → ClosesWith d old (keeps (plan_of t).keeper) items
+  closes_deque d items cells same planned ring =
+      let plan : Plan K = plan_of t in
+      let rule = closes.rule in
+      let h : List DequeEntry = closes.book.history in
+      let ring' : ReadsRing words plan.capacity items = subst (λ k. ReadsRing words k items) (sym planned) ring in
+      let m : Moment Unit DequeCall DequeReply Stage = record { words = words; homes = closes.homes; history = h; parts = closes.parts } in
+      let are = items_are keeps plan m rule (λ c below. idle_is (closes.parts c) (closes.rest c below)) items ring' in
+      let pages : All (λ q. IsPageOf (caller_of q) h (page q)) new = λ k p within. closes.legal.pages _ _ (closes.each k p within) in
+      record {
+        book = closes.book;
+        legal = closes.legal;
+        opened = closes.start ∙ ap (λ p. deque_with p.capacity []) (sym same);
+        callers = closes.callers ∙ ap (λ p. p.callers) (sym same);
+        leaves = subst (λ n. LeavesItems n h items) (ap (λ p. p.capacity) (sym same)) (subst (LeavesItems plan.capacity h) are rule.log.legal);
+        kept = rule.log.calls_kept;
+        pages = pages_before (deque_terms keeps) DequeOpens DequeSteps plan most old new looked h pages;
       }

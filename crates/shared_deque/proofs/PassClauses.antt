@@ -1,69 +1,70 @@
--- From a try on a seat to the clauses of a call on a pass.
-use Rattle.std.proofs.Common.{◌≡◌, ℕ, ◌<◌, refl, ap, sym, ◌∙◌, subst, arith, Option, Some, None, Result, Ok, Err}
+-- What a call's clauses say of its pass, from what it did to its caller's view.
+use Rattle.std.proofs.Common.{◌≡◌, ◌≢◌, ℕ, ◌<◌, List, [], ◌∷◌, ◌++◌, refl, ap, sym, ◌∙◌, subst, Option, Some, None, Result, Ok, Err, IsTrue}
 use Rattle.std.specs.Prelude.{IfOk, IfSome}
-use Rattle.pass_book.specs.Histories.{IsOfCallers, entries_of}
-use Rattle.pass_book.specs.Pages.{IsPage}
-use Rattle.pass_book.proofs.Sublists.{entries_of-alone}
+use Rattle.pass_book.specs.Histories.{IsOfCallers}
 use Rattle.seq_objects.specs.declared.deques.DequeCall.{DequeCall}
+use Rattle.seq_objects.specs.declared.deques.DequeReply.{DequeReply}
+use Rattle.seq_objects.specs.declared.deques.DequeReply.TheVariants.{Pushed, Took, Empty, Full}
+use Rattle.seq_objects.specs.Meanings.{DequeOpens, DequeSteps}
+use Rattle.pass_table.specs.declared.views.View.{View}
+use Rattle.pass_table.specs.Views.{page_of}
+use Rattle.pass_table.specs.Steps.{Goes}
+use Rattle.pass_table.proofs.Going.{enters_of, nothing_of, alone}
+use Rattle.shared_deque.specs.declared.layout.Word.{Word}
+use Rattle.shared_deque.specs.declared.clients.Plan.{Plan}
+use Rattle.shared_deque.specs.declared.clients.Stage.{Stage}
+use Rattle.shared_deque.specs.declared.clients.Stage.TheVariants.{Idle, Looked, Claimed, Read, Storing, Leaving}
 use Rattle.shared_deque.specs.declared.faults.PushFault.{PushFault}
 use Rattle.shared_deque.specs.declared.faults.PushFault.TheVariants.{Full as NoRoom, Busy}
 use Rattle.shared_deque.specs.declared.faults.BusyAt.{BusyAt}
 use Rattle.shared_deque.specs.declared.faults.Full.{Full as FullDeque}
-use Rattle.shared_deque.specs.declared.views.View.{View}
-use Rattle.shared_deque.specs.Counted.{DequePage}
-use Rattle.shared_deque.specs.Rule.{page_of}
-use Rattle.shared_deque.specs.Tries.{PushEnters, PopEnters, IsBusyPush, IsBusyPop, TriesPush, TriesPop, WaitsPush, WaitsPop, last_push, last_pop}
+use Rattle.shared_deque.specs.Rule.{deque_terms, is_idle}
+use Rattle.shared_deque.specs.Counted.{DequeEntry}
+use Rattle.shared_deque.specs.Kinds.{Looks}
+use Rattle.shared_deque.specs.Answers.{DequeChange, PushEnters, PopEnters, PushIsCaused, PopIsCaused, PushWaitIsCaused, PopWaitIsCaused, PushesAlone, PopsAlone, SeesOwnAlone, last_push, last_pop}
+use Rattle.shared_deque.specs.Tries.{TriesPush, TriesPop, WaitsPush, WaitsPop, push_entries, pop_entries, TakenIsKept, PoppedIsKept}
 
-push_own : (n c : ℕ) (old new : DequePage) (call : DequeCall) (result : Result Unit PushFault) → PushEnters n c old new call result → IsPage c new
-push_own n c old new call (Ok u) enters = enters.own
-push_own n c old new call (Err NoRoom) enters = enters.own
-push_own n c old new call (Err (Busy seen)) enters = enters.own
+module _ {K : Type 0} (keeps : K → ℕ → Type 0) (plan : Plan K) (call : DequeCall) (v w : View DequeCall DequeReply (Plan K) Stage Word) where
+  -- the change of a pass whose view this is
+  abbrev pub changed : DequeChange
+  changed = record { caller = v.number; old = page_of v; new = page_of w; looked_old = v.looked; looked_new = w.looked }
 
-pop_own : (n c : ℕ) (old new : DequePage) (call : DequeCall) (result : Result (Option ℕ) BusyAt) → PopEnters n c old new call result → IsPage c new
-pop_own n c old new call (Ok (Some item)) enters = enters.own
-pop_own n c old new call (Ok None) enters = enters.own
-pop_own n c old new call (Err busy) enters = enters.own
+  pub push_history : (result : Result Unit PushFault) (words : Looks) → Goes (deque_terms keeps) DequeOpens DequeSteps plan v w words (push_entries v.number call result) → PushEnters plan.capacity changed call result
+  push_history (Ok u) words goes = enters_of (deque_terms keeps) DequeOpens DequeSteps plan v w words call Pushed goes
+  push_history (Err NoRoom) words goes = enters_of (deque_terms keeps) DequeOpens DequeSteps plan v w words call Full goes
+  push_history (Err (Busy seen)) words goes = nothing_of (deque_terms keeps) DequeOpens DequeSteps plan v w words goes
 
--- what a caller alone has seen is all its own
-alone_sees_own : (c m : ℕ) (page : DequePage) → m ≡ 1 → c < m → IsOfCallers m page.seen → IsPage c page → page.seen ≡ page.mine
-alone_sees_own c m page one below all own =
-    let first : c ≡ 0 = omega arith in
-    sym (own ∙ (ap (λ k. entries_of k page.seen) first ∙ entries_of-alone page.seen (subst (λ k. IsOfCallers k page.seen) one all)))
+  pub pop_history : (result : Result (Option ℕ) BusyAt) (words : Looks) → Goes (deque_terms keeps) DequeOpens DequeSteps plan v w words (pop_entries v.number call result) → PopEnters plan.capacity changed call result
+  pop_history (Ok (Some item)) words goes = enters_of (deque_terms keeps) DequeOpens DequeSteps plan v w words call (Took item) goes
+  pop_history (Ok None) words goes = enters_of (deque_terms keeps) DequeOpens DequeSteps plan v w words call Empty goes
+  pop_history (Err busy) words goes = nothing_of (deque_terms keeps) DequeOpens DequeSteps plan v w words goes
 
-module _ {K : Type 0} where
-  -- a push of the one caller of a deque
-  pub pushes_alone : (m : ℕ) (call : DequeCall) (v w : View K) (result : Result Unit PushFault) → v.callers ≡ m → TriesPush call v w result → m ≡ 1 → (¬ IsBusyPush result) × (w.seen ≡ w.mine)
-  pushes_alone m call v w result callers tries one = (
-    (λ busy. tries.not_alone busy (callers ∙ one)),
-    alone_sees_own v.number v.callers (page_of w) (callers ∙ one) tries.below tries.callers (push_own v.capacity v.number (page_of v) (page_of w) call result tries.enters),
-  )
+  pub push_cause : (result : Result Unit PushFault) → TriesPush keeps plan call v w result → PushIsCaused plan.capacity plan.callers changed call result
+  push_cause result tries = record { words = tries.words; looked = tries.goes.looked; cause = tries.cause; meets = tries.goes.meets }
 
-  -- a pop of the one caller of a deque
-  pub pops_alone : (keeps : K → ℕ → Type 0) (m : ℕ) (call : DequeCall) (v w : View K) (result : Result (Option ℕ) BusyAt) → v.callers ≡ m → TriesPop keeps call v w result → m ≡ 1
-      → (¬ IsBusyPop result) × (w.seen ≡ w.mine)
-  pops_alone keeps m call v w result callers tries one = (
-    (λ busy. tries.not_alone busy (callers ∙ one)),
-    alone_sees_own v.number v.callers (page_of w) (callers ∙ one) tries.below tries.callers (pop_own v.capacity v.number (page_of v) (page_of w) call result tries.enters),
-  )
+  pub pop_cause : (result : Result (Option ℕ) BusyAt) → TriesPop keeps plan call v w result → PopIsCaused plan.capacity plan.callers changed call result
+  pop_cause result tries = record { words = tries.words; looked = tries.goes.looked; cause = tries.cause; meets = tries.goes.meets }
 
-  -- what a pop takes is kept
-  pub pop_kept : (keeps : K → ℕ → Type 0) (keeper : K) (call : DequeCall) (v w : View K) (result : Result (Option ℕ) BusyAt) → v.keeper ≡ Some keeper → TriesPop keeps call v w result
-      → IfOk result (λ taken. IfSome taken (λ item. keeps keeper item))
-  pop_kept keeps keeper call v w (Ok (Some item)) is tries = subst (λ o. IfSome o (λ k. keeps k item)) is (tries.kept item refl)
-  pop_kept keeps keeper call v w (Ok None) is tries = tt
-  pop_kept keeps keeper call v w (Err busy) is tries = tt
+  pub push_wait_cause : (result : Result Unit FullDeque) → WaitsPush keeps plan call v w result → PushWaitIsCaused plan.capacity plan.callers changed call result
+  push_wait_cause result waits = record { before = waits.before; words = waits.words; looked = waits.goes.looked; tries = waits.tries; cause = waits.cause; meets = waits.goes.meets }
 
-  -- what the one caller of a deque has seen after a push that waited
-  pub push_sees_own : (m : ℕ) (call : DequeCall) (v w : View K) (result : Result Unit FullDeque) → v.callers ≡ m → WaitsPush call v w result → m ≡ 1 → w.seen ≡ w.mine
-  push_sees_own m call v w result callers waits one =
-      alone_sees_own v.number v.callers (page_of w) (callers ∙ one) waits.below waits.callers (push_own v.capacity v.number (page_of v) (page_of w) call (last_push result) waits.enters)
+  pub pop_wait_cause : (taken : Option ℕ) → WaitsPop keeps plan call v w taken → PopWaitIsCaused plan.capacity plan.callers changed call taken
+  pop_wait_cause taken waits = record { before = waits.before; words = waits.words; looked = waits.goes.looked; tries = waits.tries; cause = waits.cause; meets = waits.goes.meets }
 
-  -- the same after a pop that waited
-  pub pop_sees_own : (keeps : K → ℕ → Type 0) (m : ℕ) (call : DequeCall) (v w : View K) (taken : Option ℕ) → v.callers ≡ m → WaitsPop keeps call v w taken → m ≡ 1 → w.seen ≡ w.mine
-  pop_sees_own keeps m call v w taken callers waits one =
-      alone_sees_own v.number v.callers (page_of w) (callers ∙ one) waits.below waits.callers (pop_own v.capacity v.number (page_of v) (page_of w) call (last_pop taken) waits.enters)
+  pub sees_own : (words : Looks) (entries : List DequeEntry) → Goes (deque_terms keeps) DequeOpens DequeSteps plan v w words entries → SeesOwnAlone plan.callers (page_of w)
+  sees_own words entries goes one = alone (deque_terms keeps) DequeOpens DequeSteps plan w goes.sound one
 
-  -- what a pop takes that waited is kept
-  pub pop_waited_kept : (keeps : K → ℕ → Type 0) (keeper : K) (call : DequeCall) (v w : View K) (taken : Option ℕ) → v.keeper ≡ Some keeper → WaitsPop keeps call v w taken → IfSome taken (λ item. keeps keeper item)
-  pop_waited_kept keeps keeper call v w (Some item) is waits = subst (λ o. IfSome o (λ k. keeps k item)) is (waits.kept item refl)
-  pop_waited_kept keeps keeper call v w None is waits = tt
+  pub push_alone : (result : Result Unit PushFault) → TriesPush keeps plan call v w result → PushesAlone plan.callers (page_of w) result
+  push_alone result tries one = ((λ busy. tries.not_alone busy one), sees_own tries.words (push_entries v.number call result) tries.goes one)
+
+  pub pop_alone : (result : Result (Option ℕ) BusyAt) → TriesPop keeps plan call v w result → PopsAlone plan.callers (page_of w) result
+  pop_alone result tries one = ((λ busy. tries.not_alone busy one), sees_own tries.words (pop_entries v.number call result) tries.goes one)
+
+-- what is handed out is kept
+pub taken_kept : (keeps : ℕ → Type 0) (taken : Option ℕ) → TakenIsKept keeps taken → IfSome taken keeps
+taken_kept keeps (Some item) kept = kept
+taken_kept keeps None kept = tt
+
+pub popped_kept : (keeps : ℕ → Type 0) (result : Result (Option ℕ) BusyAt) → PoppedIsKept keeps result → IfOk result (λ taken. IfSome taken keeps)
+popped_kept keeps (Ok taken) kept = taken_kept keeps taken kept
+popped_kept keeps (Err busy) kept = tt

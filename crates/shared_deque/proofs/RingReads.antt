@@ -5,8 +5,8 @@ use Rattle.std.proofs.Math.Seq.{get_or-append_seam}
 use Rattle.std.proofs.lemmas.Bool.{cases_lt}
 use mathlib.Core.Option.{some, some-injective, some-ne-none}
 use lib.ListN.{get_elem?}
-use Rattle.shared_deque.specs.Words.{value_in, value_place, head_in, size_in}
-use Rattle.shared_deque.specs.Closings.{ReadsRing}
+use Rattle.shared_deque.specs.Layout.{value_in, value_place, head_in, size_in}
+use Rattle.shared_deque.specs.Closed.{ReadsRing}
 
 -- what stands at a place is what is read there
 pub read_at : (words : List ℕ) (i word : ℕ) → get_elem? words i ≡ some word → slice_index words i ≡ word

@@ -8,18 +8,10 @@ use Rattle.std.proofs.lemmas.Grind.{get_or_after_one}
 use Rattle.std.proofs.lemmas.Option.{slice_get-get_or}
 use Rattle.std.proofs.lemmas.Bool.{cases_lt}
 use Rattle.atomic_table.proofs.Lists.{one_turn}
-use Rattle.shared_deque.specs.Words.{cell_before, cell_behind}
+use Rattle.pass_table.specs.Terms.{put}
+use Rattle.pass_table.proofs.Lists.{put_here, put_else}
+use Rattle.shared_deque.specs.Layout.{cell_before, cell_behind}
 use Rattle.shared_deque.specs.Rule.{IsLaid}
-
--- the cells, with another item in one of them
-abbrev pub put : (ℕ → ℕ) → ℕ → ℕ → ℕ → ℕ
-put has cell item other = cond (nat_eq other cell) item (has other)
-
-pub put_here : (has : ℕ → ℕ) (cell item other : ℕ) → other ≡ cell → put has cell item other ≡ item
-put_here has cell item other is = ap (λ b. cond b item (has other)) (eq-eqb other cell is)
-
-pub put_else : (has : ℕ → ℕ) (cell item other : ℕ) → other ≢ cell → put has cell item other ≡ has other
-put_else has cell item other isnt = ap (λ b. cond b item (has other)) (ne_eqb other cell isnt)
 
 -- a remainder may be taken before a sum
 pub mod_first : (a b n : ℕ) → (a % n + b) % n ≡ (a + b) % n

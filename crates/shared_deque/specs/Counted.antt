@@ -1,43 +1,28 @@
 -- What a deque's history leaves, and the ends word that shows it.
-use Rattle.std.specs.Prelude.{ℕ, List, [], ◌∷◌, length}
+use Rattle.std.specs.Prelude.{◌≡◌, ℕ, List, [], ◌∷◌, length}
 use Rattle.pass_book.specs.declared.entries.Entry.{Entry}
-use Rattle.pass_book.specs.Histories.{Leaves, IsLegal}
-use Rattle.pass_book.specs.Pages.{Page, Enters, EntersNothing}
+use Rattle.pass_book.specs.Histories.{Leaves}
+use Rattle.pass_book.specs.Pages.{Page}
 use Rattle.seq_objects.specs.declared.deques.DequeCall.{DequeCall}
-use Rattle.seq_objects.specs.declared.deques.DequeCall.TheVariants.{PushFront, PopFront}
+use Rattle.seq_objects.specs.declared.deques.DequeCall.TheVariants.{PushBack, PushFront, PopBack, PopFront}
 use Rattle.seq_objects.specs.declared.deques.DequeReply.{DequeReply}
 use Rattle.seq_objects.specs.declared.deques.DequeReply.TheVariants.{Pushed, Took}
 use Rattle.seq_objects.specs.DequeSteps.{DequeState, deque_after}
 use Rattle.seq_objects.specs.Meanings.{DequeOpens, DequeSteps}
-use Rattle.shared_deque.specs.Words.{ends_word, cell_before, cell_behind}
+use Rattle.shared_deque.specs.declared.layout.Word.{Word}
+use Rattle.shared_deque.specs.declared.layout.Word.TheVariants.{Ends, Turn, Value}
+use Rattle.shared_deque.specs.Layout.{ends_word, size_in, cell_before, cell_behind}
 
 abbrev pub DequeEntry : Type 0
 DequeEntry = Entry DequeCall DequeReply
 
-abbrev pub DequePage : Type 0
-DequePage = Page DequeCall DequeReply
-
--- an empty deque of this capacity
-abbrev pub empty_deque : ℕ → DequeState
-empty_deque capacity = record { capacity = capacity; items = [] }
-
+-- a deque of this capacity with these items
 abbrev pub deque_with : ℕ → List ℕ → DequeState
 deque_with capacity items = record { capacity = capacity; items = items }
 
-abbrev pub IsLegalDeque : ℕ → List DequeEntry → Type 0
-IsLegalDeque capacity h = IsLegal DequeOpens DequeSteps (empty_deque capacity) h
-
 -- the history of a deque of this capacity leaves these items
 abbrev pub LeavesItems : ℕ → List DequeEntry → List ℕ → Type 0
-LeavesItems capacity h items = Leaves DequeOpens DequeSteps (empty_deque capacity) h (deque_with capacity items)
-
--- a call with an entry, behind which nothing stands
-abbrev pub EntersDeque : ℕ → ℕ → DequePage → DequePage → DequeCall → DequeReply → Type 0
-EntersDeque capacity caller old new call reply = Enters DequeOpens DequeSteps (empty_deque capacity) caller old new call reply
-
--- a call without an entry
-abbrev pub EntersNoDeque : ℕ → ℕ → DequePage → DequePage → Type 0
-EntersNoDeque capacity caller old new = EntersNothing DequeOpens DequeSteps (empty_deque capacity) caller old new
+LeavesItems capacity h items = Leaves DequeOpens DequeSteps (deque_with capacity []) h (deque_with capacity items)
 
 abbrev pub items_after : ℕ → List ℕ → List DequeEntry → List ℕ
 items_after capacity items [] = items
@@ -46,6 +31,23 @@ items_after capacity items (e ∷ h) = items_after capacity (deque_after capacit
 -- the items that a history leaves
 abbrev pub left_of : ℕ → List DequeEntry → List ℕ
 left_of capacity h = items_after capacity [] h
+
+-- a history leaves as many items as the ends word says
+abbrev pub IsCounted : ℕ → List DequeEntry → ℕ → Type 0
+IsCounted capacity h ends = length (left_of capacity h) ≡ size_in ends
+
+-- what a word that was read says of the history at that moment
+abbrev pub Shows : ℕ → List DequeEntry → Word → ℕ → Type 0
+Shows capacity h Ends word = IsCounted capacity h word
+Shows capacity h (Turn cell) word = Unit {0}
+Shows capacity h (Value cell) word = Unit {0}
+
+-- a push asks for an item that is kept
+abbrev pub PushesKept : (ℕ → Type 0) → DequeCall → Type 0
+PushesKept keeps (PushBack item) = keeps item
+PushesKept keeps (PushFront item) = keeps item
+PushesKept keeps PopBack = Unit {0}
+PushesKept keeps PopFront = Unit {0}
 
 -- the first cell of the ring after a call
 abbrev pub head_after : ℕ → ℕ → DequeCall → DequeReply → ℕ

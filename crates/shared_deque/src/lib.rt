@@ -1,4 +1,4 @@
-//! A deque that several callers share, without a lock.
+//! A deque that several callers share.
 //!
 //! The items stand in a ring of cells. A call loads one word, the ends, which says where the ring begins
 //! and how many items it has, claims the one cell that it needs by the cell's turn, and exchanges the
@@ -9,27 +9,26 @@
 //! Each caller has a pass. Its page has the caller's own entries and the beginning of the history that
 //! it has seen, and each call says what it does to them: the history is legal, so each reply is the one
 //! that the deque of a single thread gives at that place. The try forms wait for nobody and name the
-//! word that was in their way. No call but `open` and `close` takes memory.
+//! word that was in their way. No call but `open` and `close` takes memory. A caller that stops between
+//! its claim and its leave keeps its cell: calls that need that cell are busy from then on.
 #![tactic(auto)]
 
+mod clients;
 mod closing;
 mod deques;
 mod faults;
+mod layout;
 mod notes;
 mod opening;
-mod passes;
-mod plays;
+mod sides;
 mod steps;
 mod tries;
-mod views;
 mod waits;
-mod words;
 
 pub use closing::{ClosedDeque, DequeBack};
-pub use deques::Deque;
+pub use deques::{Deque, DequeNote, DequePass};
 pub use faults::{BusyAt, DequeFault, Full, PushFault};
-pub use passes::{DequeNote, DequePass};
-pub use words::Word;
+pub use layout::Word;
 
 #[cfg(test)]
 mod tests;

@@ -1,14 +1,13 @@
 //! What callers tell one another: a note of what one has seen, which another takes in.
 ghost use Rattle.std.specs.Prelude.{◌≡◌, ℕ, [], ◌∷◌, ◌++◌};
-ghost use Rattle.pass_book.specs.Pages.{IsNoted, Learns};
-ghost use Rattle.shared_deque.specs.Steps.{ends_read};
-ghost use Rattle.shared_deque.specs.Passes.{opening_of, pass_opening, note_opening, page, looked, seen_by, caller_of};
-ghost use Rattle.shared_deque.specs.Calls.{IsSamePass};
+ghost use Rattle.pass_book.specs.Histories.{IsOfCallers};
+ghost use Rattle.pass_book.specs.Pages.{IsNoted, IsPage, Learns};
+ghost use Rattle.pass_table.specs.Passes.{IsSamePass, caller_of, looked, note_opening, page, pass_opening, seen_by};
+ghost use Rattle.shared_deque.specs.Deques.{opening_of, capacity_of, callers_of};
+ghost use Rattle.shared_deque.specs.Kinds.{ends_read};
+ghost use Rattle.shared_deque.specs.Answers.{MeetsEnds};
 
-use crate::deques::Deque;
-use crate::passes::{DequeNote, DequePass};
-use crate::plays::{Learn, MakeNote, TakeNote};
-use crate::words::ENDS;
+use crate::deques::{Deque, DequeNote, DequePass};
 use seq_objects::Keeps;
 
 impl<K: Keeps> Deque<K> {
@@ -19,31 +18,21 @@ impl<K: Keeps> Deque<K> {
         ensures noted { IsNoted (page pass.old) (page pass.new) (seen_by result) }
         ensures pass { IsSamePass pass.old pass.new × (looked pass.new ≡ looked pass.old) }
     {
-        let seat = self.table.shared.split_seat::<MakeNote>(&mut pass.seat);
-        DequeNote { seat }
+        self.table.note(pass)
     }
 
-    /// Takes in a note. What the caller has then seen is the longer of what it had seen and the note.
+    /// Takes in a note. What the caller has then seen is the longer of what it had seen and the note, and it has
+    /// looked at the ends once more.
     pub fn learn(&self, pass: &mut DequePass<K>, note: DequeNote<K>)
         requires pass { pass_opening pass.old ≡ opening_of self.now }
         requires note { note_opening note ≡ opening_of self.now }
-        ensures learns { Learns (page pass.old) (seen_by note) (page pass.new) }
         ensures pass { IsSamePass pass.old pass.new }
-        ensures looked { (ends : ℕ) × (looked pass.new ≡ looked pass.old ++ ends_read ends ∷ []) }
+        ensures learns { Learns (page pass.old) (seen_by note) (page pass.new) }
+        ensures own { IsPage (caller_of pass.new) (page pass.new) }
+        ensures callers { IsOfCallers (callers_of self.now) (page pass.new).seen }
+        ensures looked { (ends : ℕ) × (looked pass.new ≡ looked pass.old ++ ends_read ends ∷ [])
+            × MeetsEnds (capacity_of self.now) (callers_of self.now) (caller_of pass.new) (page pass.new) ends }
     {
-        let DequeNote { seat } = note;
-        self.table
-            .shared
-            .join_seat::<TakeNote>(&mut pass.seat, seat);
-        self.table.shared.load::<Learn>(&mut pass.seat, ENDS);
-    }
-}
-
-impl<K> DequePass<K> {
-    /// The caller's number, from 0.
-    pub fn caller(&self) -> u32
-        ensures { result ≡ caller_of self.now }
-    {
-        self.caller
+        self.table.learn(pass, note);
     }
 }

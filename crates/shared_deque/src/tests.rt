@@ -1,10 +1,12 @@
 ghost use Rattle.std.specs.Prelude.{◌≡◌, ◌<◌, ◌≤◌, ◌+◌, All, length, IfOk, IfSome};
-ghost use Rattle.shared_deque.specs.Passes.{pass_opening, opening_of, callers_of, caller_of};
-ghost use Rattle.shared_deque.specs.Openings.{IsNewPass, ArePassesOf};
-ghost use Rattle.shared_deque.specs.Calls.{IsSamePass};
+ghost use mathlib.Core.List.{IsPrefix};
+ghost use Rattle.pass_table.specs.Passes.{IsSamePass, caller_of, page, pass_opening};
+ghost use Rattle.shared_deque.specs.Deques.{callers_of, opening_of};
+ghost use Rattle.shared_deque.specs.Opened.{IsNewPass, ArePassesOf, AreOfAllCallers, AreOfOpening};
 
 use super::*;
-use seq_objects::{AnyItem, DequeCall, DequeReply};
+use crate::sides::Side;
+use seq_objects::{AnyItem, DequeCall, DequeReply, Keeps};
 use std::alloc::{AllocError, Global};
 use std::sync::Wait;
 use std::test::Fail;
@@ -16,10 +18,11 @@ fn crosses<T: Send + Sync>(_shared: &T) {}
 
 fn moves<T: Send>(_sent: &T) {}
 
-// A caller that pushes so many items at the back, each above the last, and pops so many at the front.
+// A caller that pushes so many items at one end, each above the last, or pops so many at the other.
 #[derive(Drop)]
 struct Worker {
     pass: DequePass<AnyItem>,
+    pushes_at: Side,
     pushes: u64,
     pops: u64,
     popped: Vec<u64>,
@@ -32,25 +35,39 @@ fn push_until_room<R: Wait>(
     rt: &R,
     deque: &Deque<AnyItem>,
     pass: &mut DequePass<AnyItem>,
+    side: Side,
     item: u64,
 )
     requires { pass_opening pass.old ≡ opening_of deque.now }
     ensures { pass_opening pass.new ≡ opening_of deque.now }
 {
     for _ in rt.forever() {
-        if deque.push_back(rt, pass, item).is_ok() {
+        let pushed = match side {
+            Side::Back => deque.push_back(rt, pass, item),
+            Side::Front => deque.push_front(rt, pass, item),
+        };
+        if pushed.is_ok() {
             break;
         }
         thread::yield_now();
     }
 }
 
-fn pop_until_found<R: Wait>(rt: &R, deque: &Deque<AnyItem>, pass: &mut DequePass<AnyItem>) -> u64
+fn pop_until_found<R: Wait>(
+    rt: &R,
+    deque: &Deque<AnyItem>,
+    pass: &mut DequePass<AnyItem>,
+    side: Side,
+) -> u64
     requires { pass_opening pass.old ≡ opening_of deque.now }
     ensures { pass_opening pass.new ≡ opening_of deque.now }
 {
     for _ in rt.forever() {
-        if let Some(item) = deque.pop_front(rt, pass) {
+        let popped = match side {
+            Side::Back => deque.pop_front(rt, pass),
+            Side::Front => deque.pop_back(rt, pass),
+        };
+        if let Some(item) = popped {
             return item;
         }
         thread::yield_now();
@@ -63,16 +80,17 @@ fn work<R: Wait>(rt: &R, deque: &Deque<AnyItem>, worker: &mut Worker)
 {
     let Worker {
         pass,
+        pushes_at,
         pushes,
         pops,
         popped,
     } = worker;
     let base = u64::from(pass.caller()) * STRIDE;
     for number in 0..*pushes {
-        push_until_room(rt, deque, pass, base.wrapping_add(number));
+        push_until_room(rt, deque, pass, *pushes_at, base.wrapping_add(number));
     }
     for _ in 0..*pops {
-        let item = pop_until_found(rt, deque, pass);
+        let item = pop_until_found(rt, deque, pass, *pushes_at);
         let _ = popped.push(item);
     }
 }
@@ -95,10 +113,7 @@ fn work_all<R: Threads + Wait + Sync>(rt: &R, deque: &Deque<AnyItem>, workers: &
 }
 
 // The last of the passes.
-fn take_pass(
-    deque: &Deque<AnyItem>,
-    passes: &mut Vec<DequePass<AnyItem>>,
-) -> Option<DequePass<AnyItem>>
+fn take_pass<K: Keeps>(deque: &Deque<K>, passes: &mut Vec<DequePass<K>>) -> Option<DequePass<K>>
     requires { ArePassesOf deque.now passes.old.items }
     ensures rest { ArePassesOf deque.now passes.new.items }
     ensures pass { IfSome result (λ p. IsNewPass deque.now (length passes.new.items) p) }
@@ -121,6 +136,18 @@ fn close_alone(
     };
     match deque.close(passes) {
         Ok(closed) => Ok(closed.items),
+        Err(back) => closed_again(back),
+    }
+}
+
+// A close that was refused, made again.
+fn closed_again(back: DequeBack<AnyItem>) -> Result<Vec<u64>, Fail>
+    requires opening { AreOfOpening back.deque back.passes.items }
+    requires all { AreOfAllCallers back.deque back.passes.items }
+{
+    let DequeBack { deque, passes } = back;
+    match deque.close(passes) {
+        Ok(closed) => Ok(closed.items),
         Err(_) => Err("memory".into()),
     }
 }
@@ -132,6 +159,7 @@ fn workers_of(
     mut passes: Vec<DequePass<AnyItem>>,
     pushers: u32,
     each: u64,
+    pushes_at: Side,
 ) -> Result<Vec<Worker>, Fail>
     requires { ArePassesOf deque.now passes.items }
     ensures { IfOk result (λ v. All (λ w. pass_opening w.pass ≡ opening_of deque.now) v.items) }
@@ -141,6 +169,7 @@ fn workers_of(
         let pushes_items = pass.caller() < pushers;
         let worker = Worker {
             pass,
+            pushes_at,
             pushes: if pushes_items { each } else { 0 },
             pops: if pushes_items { 0 } else { each },
             popped: Vec::new(alloc),
@@ -173,11 +202,12 @@ fn after_work<R: Threads + Wait + Sync>(
     capacity: u32,
     pushers: u32,
     each: u64,
+    pushes_at: Side,
 ) -> Result<Vec<Worker>, Fail>
     requires { pushers ≤ 512 }
 {
     let (deque, passes) = Deque::open(alloc, 2, capacity, 2 * pushers, AnyItem)?;
-    let mut workers = workers_of(alloc, &deque, passes, pushers, each)?;
+    let mut workers = workers_of(alloc, &deque, passes, pushers, each, pushes_at)?;
     work_all(rt, &deque, workers.as_mut_slice());
     Ok(workers)
 }
@@ -376,14 +406,21 @@ fn a_ring_goes_round_both_ways(rt: HostRuntime) -> Result<(), Fail> {
 
 #[test]
 fn each_item_is_taken_once_and_in_order(rt: HostRuntime) -> Result<(), Fail> {
-    let workers = after_work(&rt, rt.alloc(), 8, 2, 1000)?;
+    let workers = after_work(&rt, rt.alloc(), 8, 2, 1000, Side::Back)?;
+    assert!(rt; is_whole(rt.alloc(), workers.as_slice(), 2, 1000)?);
+    Ok(())
+}
+
+#[test]
+fn items_go_the_other_way_too(rt: HostRuntime) -> Result<(), Fail> {
+    let workers = after_work(&rt, rt.alloc(), 8, 2, 1000, Side::Front)?;
     assert!(rt; is_whole(rt.alloc(), workers.as_slice(), 2, 1000)?);
     Ok(())
 }
 
 #[test]
 fn more_callers_than_processors_end(rt: HostRuntime) -> Result<(), Fail> {
-    let workers = after_work(&rt, rt.alloc(), 3, 24, 50)?;
+    let workers = after_work(&rt, rt.alloc(), 3, 24, 50, Side::Back)?;
     assert!(rt; is_whole(rt.alloc(), workers.as_slice(), 24, 50)?);
     Ok(())
 }
@@ -409,5 +446,94 @@ fn numbers_out_of_range_are_refused_in_order(rt: HostRuntime) -> Result<(), Fail
             Some(fault)
         );
     }
+    Ok(())
+}
+
+// Keeps even items alone.
+#[derive(Clone, Copy)]
+struct Even;
+
+impl Keeps for Even {
+    ghost use Rattle.std.specs.Prelude.{◌≡◌, ◌%◌};
+
+    ghost keeps = { λ _ item. item % 2 ≡ 0 };
+}
+
+// Half of the item at the back of a deque of even items, which has no rest.
+fn half_of_last(deque: &Deque<Even>, pass: &mut DequePass<Even>) -> Option<u64>
+    requires { pass_opening pass.old ≡ opening_of deque.now }
+    ensures { IsSamePass pass.old pass.new }
+{
+    let Ok(Some(item)) = deque.try_pop_back(pass) else {
+        return None;
+    };
+    prove!(item % 2 == 0);
+    Some(item / 2)
+}
+
+// Pushes an item with one pass, and makes the other's caller see all that the first has seen.
+fn hand_on(
+    deque: &Deque<Even>,
+    giver: &mut DequePass<Even>,
+    taker: &mut DequePass<Even>,
+) -> Result<(), PushFault>
+    requires giver { pass_opening giver.old ≡ opening_of deque.now }
+    requires taker { pass_opening taker.old ≡ opening_of deque.now }
+    ensures giver { IsSamePass giver.old giver.new }
+    ensures taker { IsSamePass taker.old taker.new }
+    ensures after { IsPrefix (page giver.new).seen (page taker.new).seen }
+{
+    let pushed = deque.try_push_front(giver, 8);
+    let note = deque.note(giver);
+    deque.learn(taker, note);
+    pushed
+}
+
+// What a deque of two callers holds, closed with their passes.
+fn closed_by_two(
+    alloc: Global,
+    deque: Deque<Even>,
+    first: DequePass<Even>,
+    second: DequePass<Even>,
+) -> Result<Vec<u64>, Fail>
+    requires first { (pass_opening first ≡ opening_of deque) × (caller_of first ≡ 0) }
+    requires second { (pass_opening second ≡ opening_of deque) × (caller_of second ≡ 1) }
+    requires callers { callers_of deque ≡ 2 }
+{
+    let mut passes = Vec::new(alloc);
+    let (Ok(()), Ok(())) = (passes.push(first), passes.push(second)) else {
+        return Err("memory".into());
+    };
+    match deque.close(passes) {
+        Ok(closed) => Ok(closed.items),
+        Err(_) => Err("memory".into()),
+    }
+}
+
+// A deque of two callers, with their passes.
+fn pair(alloc: Global) -> Result<(Deque<Even>, DequePass<Even>, DequePass<Even>), Fail>
+    ensures first { IfOk result (λ r. (pass_opening r.1 ≡ opening_of r.0) × (caller_of r.1 ≡ 0)) }
+    ensures second { IfOk result (λ r. (pass_opening r.2 ≡ opening_of r.0) × (caller_of r.2 ≡ 1)) }
+    ensures callers { IfOk result (λ r. callers_of r.0 ≡ 2) }
+{
+    let (deque, mut passes) = Deque::open(alloc, 2, 5, 2, Even)?;
+    let Some(second) = take_pass(&deque, &mut passes) else {
+        return Err("no pass".into());
+    };
+    let Some(first) = take_pass(&deque, &mut passes) else {
+        return Err("no pass".into());
+    };
+    Ok((deque, first, second))
+}
+
+#[test]
+fn two_callers_close_a_deque(rt: HostRuntime) -> Result<(), Fail> {
+    let (deque, mut first, mut second) = pair(rt.alloc())?;
+    assert_eq!(rt; deque.try_push_back(&mut second, 6), Ok(()));
+    assert_eq!(rt; hand_on(&deque, &mut first, &mut second), Ok(()));
+    assert_eq!(rt; half_of_last(&deque, &mut second), Some(3));
+    assert_eq!(rt; deque.try_push_back(&mut first, 10), Ok(()));
+    let closed = closed_by_two(rt.alloc(), deque, first, second)?;
+    assert_eq!(rt; closed.as_slice(), [8, 10].as_slice());
     Ok(())
 }

@@ -1,53 +1,45 @@
 //! One try of each call: it makes each of its steps once and waits for nobody.
 ghost use Rattle.std.specs.Prelude.{◌≡◌, IfOk, IfSome};
-ghost use Rattle.pass_book.specs.Pages.{IsPage};
-ghost use Rattle.shared_deque.specs.declared.views.Stage.TheVariants.{Idle};
-ghost use Rattle.shared_deque.specs.Words.{IsPush, IsPop, PushesKept, pushed_item};
-ghost use Rattle.shared_deque.specs.Rule.{page_of};
+ghost use Rattle.pass_book.specs.Histories.{IsOfCallers};
+ghost use Rattle.pass_table.specs.Passes.{IsSeatOf, IsResting, IsSamePass, change, page, pass_opening, view_of, plan_of};
+ghost use Rattle.shared_deque.specs.Aims.{call_of};
 ghost use Rattle.shared_deque.specs.Tries.{TriesPush, TriesPop};
-ghost use Rattle.shared_deque.specs.Passes.{IsSeatOf, opening_of, keeper_of, pass_opening};
-ghost use Rattle.shared_deque.specs.Calls.{IsSamePass, PushIsMade, PopIsMade, PushIsCaused, PopIsCaused, SeesCallers, PushesAlone, PopsAlone};
+ghost use Rattle.shared_deque.specs.Deques.{opening_of, capacity_of, callers_of, keeper_of};
+ghost use Rattle.shared_deque.specs.Answers.{PushEnters, PopEnters, PushIsCaused, PopIsCaused, PushesAlone, PopsAlone};
 
-use crate::deques::Deque;
+use crate::deques::{Deque, DequePass, DequeSeat};
 use crate::faults::{BusyAt, PushFault};
-use crate::passes::DequePass;
-use crate::plays::Said;
-use crate::views::View;
-use crate::words::{claimed_cell, next_ends, size_at};
-use atomic_table::Seat;
+use crate::layout::{claimed_cell, next_ends, turns_away};
+use crate::sides::{Aim, Side};
 use seq_objects::{DequeCall, Keeps};
-use std::marker::Brand;
 
 impl<K: Keeps> Deque<K> {
-    pub(crate) fn push_once<W: Said>(
+    pub(crate) fn push_once(
         &self,
-        seat: &mut Seat<(), View<K>>,
-        caller: u32,
-        call: DequeCall,
+        seat: &mut DequeSeat<K>,
+        side: Side,
         item: u64,
     ) -> Result<(), PushFault>
-        requires seat { IsSeatOf self.now seat.old }
-        requires rests { seat.old.me.0.stage ≡ Idle }
-        requires caller { seat.old.me.0.number ≡ caller }
-        requires own { IsPage seat.old.me.0.number (page_of seat.old.me.0) }
-        requires said { W.call ≡ call }
-        requires push { IsPush call }
-        requires item { pushed_item call ≡ item }
-        requires kept { PushesKept (K.keeps (keeper_of self.now)) call }
-        ensures seat { IsSeatOf self.now seat.new }
-        ensures tries { TriesPush call seat.old.me.0 seat.new.me.0 result }
+        requires seat { IsSeatOf self.now.table seat.old }
+        requires rests { IsResting seat.old }
+        requires kept { K.keeps (keeper_of self.now) item }
+        ensures seat { IsSeatOf self.now.table seat.new }
+        ensures rests { IsResting seat.new }
+        ensures tries { TriesPush K.keeps (plan_of self.now.table) (call_of (Aim.Push side item)) (view_of seat.old) (view_of seat.new) result }
     {
-        let ends = self.look_at_ends::<W>(seat);
-        if size_at(ends) == u64::from(self.capacity) {
+        let aim = Aim::Push { side, item };
+        let ends = self.look_at_ends(seat, aim);
+        let away = turns_away(self.capacity, ends, aim);
+        if away {
             return Err(PushFault::Full);
         }
-        let cell = claimed_cell(self.capacity, ends, call);
-        let turn = self.claim(seat, cell, caller);
+        let cell = claimed_cell(self.capacity, ends, aim);
+        let turn = self.claim(seat, aim, ends, cell);
         if turn != 0 {
             return Err(PushFault::Busy { seen: turn });
         }
-        let next = next_ends(self.capacity, ends, call);
-        let found = self.exchange_ends(seat, ends, next);
+        let next = next_ends(self.capacity, ends, aim);
+        let found = self.exchange_ends(seat, aim, ends, 0, next);
         if found != ends {
             self.leave(seat, cell);
             return Err(PushFault::Busy { seen: found });
@@ -57,38 +49,62 @@ impl<K: Keeps> Deque<K> {
         Ok(())
     }
 
-    pub(crate) fn pop_once<W: Said>(
+    pub(crate) fn pop_once(
         &self,
-        seat: &mut Seat<(), View<K>>,
-        caller: u32,
-        call: DequeCall,
+        seat: &mut DequeSeat<K>,
+        side: Side,
     ) -> Result<Option<u64>, BusyAt>
-        requires seat { IsSeatOf self.now seat.old }
-        requires rests { seat.old.me.0.stage ≡ Idle }
-        requires caller { seat.old.me.0.number ≡ caller }
-        requires own { IsPage seat.old.me.0.number (page_of seat.old.me.0) }
-        requires said { W.call ≡ call }
-        requires pop { IsPop call }
-        ensures seat { IsSeatOf self.now seat.new }
-        ensures tries { TriesPop K.keeps call seat.old.me.0 seat.new.me.0 result }
+        requires seat { IsSeatOf self.now.table seat.old }
+        requires rests { IsResting seat.old }
+        ensures seat { IsSeatOf self.now.table seat.new }
+        ensures rests { IsResting seat.new }
+        ensures tries { TriesPop K.keeps (plan_of self.now.table) (call_of (Aim.Pop side)) (view_of seat.old) (view_of seat.new) result }
     {
-        let ends = self.look_at_ends::<W>(seat);
-        if size_at(ends) == 0 {
+        let aim = Aim::Pop { side };
+        let ends = self.look_at_ends(seat, aim);
+        let away = turns_away(self.capacity, ends, aim);
+        if away {
             return Ok(None);
         }
-        let cell = claimed_cell(self.capacity, ends, call);
-        let turn = self.claim(seat, cell, caller);
+        let cell = claimed_cell(self.capacity, ends, aim);
+        let turn = self.claim(seat, aim, ends, cell);
         if turn != 0 {
             return Err(BusyAt { seen: turn });
         }
-        let value = self.look_at_cell(seat, cell);
-        let next = next_ends(self.capacity, ends, call);
-        let found = self.exchange_ends(seat, ends, next);
+        let value = self.look_at_cell(seat, aim, ends, cell);
+        let next = next_ends(self.capacity, ends, aim);
+        let found = self.exchange_ends(seat, aim, ends, value, next);
         self.leave(seat, cell);
         if found != ends {
             return Err(BusyAt { seen: found });
         }
         Ok(Some(value))
+    }
+
+    // One try of a push at this end, with a pass.
+    fn try_push(&self, pass: &mut DequePass<K>, side: Side, item: u64) -> Result<(), PushFault>
+        requires opening { pass_opening pass.old ≡ opening_of self.now }
+        requires kept { K.keeps (keeper_of self.now) item }
+        ensures pass { IsSamePass pass.old pass.new }
+        ensures history { PushEnters (capacity_of self.now) (change pass.old pass.new) (call_of (Aim.Push side item)) result }
+        ensures cause { PushIsCaused (capacity_of self.now) (callers_of self.now) (change pass.old pass.new) (call_of (Aim.Push side item)) result }
+        ensures callers { IsOfCallers (callers_of self.now) (page pass.new).seen }
+        ensures alone { PushesAlone (callers_of self.now) (page pass.new) result }
+    {
+        self.push_once(&mut pass.seat, side, item)
+    }
+
+    // The same of a pop.
+    fn try_pop(&self, pass: &mut DequePass<K>, side: Side) -> Result<Option<u64>, BusyAt>
+        requires opening { pass_opening pass.old ≡ opening_of self.now }
+        ensures pass { IsSamePass pass.old pass.new }
+        ensures history { PopEnters (capacity_of self.now) (change pass.old pass.new) (call_of (Aim.Pop side)) result }
+        ensures cause { PopIsCaused (capacity_of self.now) (callers_of self.now) (change pass.old pass.new) (call_of (Aim.Pop side)) result }
+        ensures kept { IfOk result (λ taken. IfSome taken (λ item. K.keeps (keeper_of self.now) item)) }
+        ensures callers { IsOfCallers (callers_of self.now) (page pass.new).seen }
+        ensures alone { PopsAlone (callers_of self.now) (page pass.new) result }
+    {
+        self.pop_once(&mut pass.seat, side)
     }
 
     /// Tries to add an item at the back. It has an entry in the history unless it is busy: another
@@ -97,13 +113,12 @@ impl<K: Keeps> Deque<K> {
         requires opening { pass_opening pass.old ≡ opening_of self.now }
         requires kept { K.keeps (keeper_of self.now) item }
         ensures pass { IsSamePass pass.old pass.new }
-        ensures history { PushIsMade self.now pass.old pass.new (DequeCall.PushBack item) result }
-        ensures cause { PushIsCaused self.now pass.old pass.new (DequeCall.PushBack item) result }
-        ensures callers { SeesCallers self.now pass.old pass.new }
-        ensures alone { PushesAlone self.now pass.old pass.new result }
+        ensures history { PushEnters (capacity_of self.now) (change pass.old pass.new) (DequeCall.PushBack item) result }
+        ensures cause { PushIsCaused (capacity_of self.now) (callers_of self.now) (change pass.old pass.new) (DequeCall.PushBack item) result }
+        ensures callers { IsOfCallers (callers_of self.now) (page pass.new).seen }
+        ensures alone { PushesAlone (callers_of self.now) (page pass.new) result }
     {
-        let call = DequeCall::PushBack { item };
-        self.push_once::<Brand>(&mut pass.seat, pass.caller, call, item)
+        self.try_push(pass, Side::Back, item)
     }
 
     /// Tries to add an item at the front. It has an entry in the history unless it is busy: another
@@ -112,13 +127,12 @@ impl<K: Keeps> Deque<K> {
         requires opening { pass_opening pass.old ≡ opening_of self.now }
         requires kept { K.keeps (keeper_of self.now) item }
         ensures pass { IsSamePass pass.old pass.new }
-        ensures history { PushIsMade self.now pass.old pass.new (DequeCall.PushFront item) result }
-        ensures cause { PushIsCaused self.now pass.old pass.new (DequeCall.PushFront item) result }
-        ensures callers { SeesCallers self.now pass.old pass.new }
-        ensures alone { PushesAlone self.now pass.old pass.new result }
+        ensures history { PushEnters (capacity_of self.now) (change pass.old pass.new) (DequeCall.PushFront item) result }
+        ensures cause { PushIsCaused (capacity_of self.now) (callers_of self.now) (change pass.old pass.new) (DequeCall.PushFront item) result }
+        ensures callers { IsOfCallers (callers_of self.now) (page pass.new).seen }
+        ensures alone { PushesAlone (callers_of self.now) (page pass.new) result }
     {
-        let call = DequeCall::PushFront { item };
-        self.push_once::<Brand>(&mut pass.seat, pass.caller, call, item)
+        self.try_push(pass, Side::Front, item)
     }
 
     /// Tries to take the item at the back. `None` is the reply of an empty deque. It has an entry in
@@ -127,13 +141,13 @@ impl<K: Keeps> Deque<K> {
     pub fn try_pop_back(&self, pass: &mut DequePass<K>) -> Result<Option<u64>, BusyAt>
         requires opening { pass_opening pass.old ≡ opening_of self.now }
         ensures pass { IsSamePass pass.old pass.new }
-        ensures history { PopIsMade self.now pass.old pass.new DequeCall.PopBack result }
-        ensures cause { PopIsCaused self.now pass.old pass.new DequeCall.PopBack result }
+        ensures history { PopEnters (capacity_of self.now) (change pass.old pass.new) DequeCall.PopBack result }
+        ensures cause { PopIsCaused (capacity_of self.now) (callers_of self.now) (change pass.old pass.new) DequeCall.PopBack result }
         ensures kept { IfOk result (λ taken. IfSome taken (λ item. K.keeps (keeper_of self.now) item)) }
-        ensures callers { SeesCallers self.now pass.old pass.new }
-        ensures alone { PopsAlone self.now pass.old pass.new result }
+        ensures callers { IsOfCallers (callers_of self.now) (page pass.new).seen }
+        ensures alone { PopsAlone (callers_of self.now) (page pass.new) result }
     {
-        self.pop_once::<Brand>(&mut pass.seat, pass.caller, DequeCall::PopBack)
+        self.try_pop(pass, Side::Back)
     }
 
     /// Tries to take the item at the front. `None` is the reply of an empty deque. It has an entry in
@@ -142,12 +156,12 @@ impl<K: Keeps> Deque<K> {
     pub fn try_pop_front(&self, pass: &mut DequePass<K>) -> Result<Option<u64>, BusyAt>
         requires opening { pass_opening pass.old ≡ opening_of self.now }
         ensures pass { IsSamePass pass.old pass.new }
-        ensures history { PopIsMade self.now pass.old pass.new DequeCall.PopFront result }
-        ensures cause { PopIsCaused self.now pass.old pass.new DequeCall.PopFront result }
+        ensures history { PopEnters (capacity_of self.now) (change pass.old pass.new) DequeCall.PopFront result }
+        ensures cause { PopIsCaused (capacity_of self.now) (callers_of self.now) (change pass.old pass.new) DequeCall.PopFront result }
         ensures kept { IfOk result (λ taken. IfSome taken (λ item. K.keeps (keeper_of self.now) item)) }
-        ensures callers { SeesCallers self.now pass.old pass.new }
-        ensures alone { PopsAlone self.now pass.old pass.new result }
+        ensures callers { IsOfCallers (callers_of self.now) (page pass.new).seen }
+        ensures alone { PopsAlone (callers_of self.now) (page pass.new) result }
     {
-        self.pop_once::<Brand>(&mut pass.seat, pass.caller, DequeCall::PopFront)
+        self.try_pop(pass, Side::Front)
     }
 }

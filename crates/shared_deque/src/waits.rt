@@ -1,93 +1,92 @@
 //! The calls that wait: they repeat a try while it is busy.
 ghost use Rattle.std.specs.Prelude.{◌≡◌, IfSome};
-ghost use Rattle.pass_book.specs.Pages.{IsPage};
-ghost use Rattle.shared_deque.specs.declared.views.Stage.TheVariants.{Idle};
-ghost use Rattle.shared_deque.specs.Words.{IsPush, IsPop, PushesKept, pushed_item};
-ghost use Rattle.shared_deque.specs.Rule.{page_of};
+ghost use Rattle.pass_book.specs.Histories.{IsOfCallers};
+ghost use Rattle.pass_table.specs.Passes.{IsSeatOf, IsResting, IsSamePass, change, page, pass_opening, view_of, plan_of};
+ghost use Rattle.shared_deque.specs.Aims.{call_of};
 ghost use Rattle.shared_deque.specs.Tries.{WaitsPush, WaitsPop};
-ghost use Rattle.shared_deque.specs.Passes.{IsSeatOf, opening_of, keeper_of, pass_opening};
-ghost use Rattle.shared_deque.specs.Calls.{IsSamePass, PushIsEntered, PopIsEntered, PushWaitIsCaused, PopWaitIsCaused, SeesCallers, SeesOwnAlone};
+ghost use Rattle.shared_deque.specs.Deques.{opening_of, capacity_of, callers_of, keeper_of};
+ghost use Rattle.shared_deque.specs.Answers.{PushEnters, PopEnters, PushWaitIsCaused, PopWaitIsCaused, SeesOwnAlone, last_push, last_pop};
 
-use crate::deques::Deque;
+use crate::deques::{Deque, DequePass, DequeSeat};
 use crate::faults::{Full, PushFault};
-use crate::passes::DequePass;
-use crate::plays::Said;
-use crate::views::View;
-use atomic_table::Seat;
+use crate::sides::{Aim, Side};
+use pass_table::pause;
 use seq_objects::{DequeCall, Keeps};
-use std::marker::Brand;
 use std::sync::Wait;
-use std::{hint, thread};
-
-// So many busy tries are followed by another at once. From then on the processor is given up between tries.
-const SPINS: u32 = 8;
-
-// Waits a little after this many busy tries.
-fn pause(tries: u32) -> u32 {
-    if tries < SPINS {
-        hint::spin_loop();
-        tries + 1
-    } else {
-        thread::yield_now();
-        tries
-    }
-}
 
 impl<K: Keeps> Deque<K> {
-    fn push_waiting<W: Said, R: Wait>(
+    fn push_until_done<R: Wait>(
         &self,
         rt: &R,
-        seat: &mut Seat<(), View<K>>,
-        caller: u32,
-        call: DequeCall,
+        seat: &mut DequeSeat<K>,
+        side: Side,
         item: u64,
     ) -> Result<(), Full>
-        requires seat { IsSeatOf self.now seat.old }
-        requires rests { seat.old.me.0.stage ≡ Idle }
-        requires caller { seat.old.me.0.number ≡ caller }
-        requires own { IsPage seat.old.me.0.number (page_of seat.old.me.0) }
-        requires said { W.call ≡ call }
-        requires push { IsPush call }
-        requires item { pushed_item call ≡ item }
-        requires kept { PushesKept (K.keeps (keeper_of self.now)) call }
-        ensures seat { IsSeatOf self.now seat.new }
-        ensures waits { WaitsPush call seat.old.me.0 seat.new.me.0 result }
+        requires seat { IsSeatOf self.now.table seat.old }
+        requires rests { IsResting seat.old }
+        requires kept { K.keeps (keeper_of self.now) item }
+        ensures seat { IsSeatOf self.now.table seat.new }
+        ensures rests { IsResting seat.new }
+        ensures waits { WaitsPush K.keeps (plan_of self.now.table) (call_of (Aim.Push side item)) (view_of seat.old) (view_of seat.new) result }
     {
-        let mut tries = 0;
+        let mut yields = 1;
         for _ in rt.forever() {
-            match self.push_once::<W>(seat, caller, call, item) {
+            match self.push_once(seat, side, item) {
                 Ok(()) => return Ok(()),
                 Err(PushFault::Full) => return Err(Full {}),
-                Err(PushFault::Busy { .. }) => tries = pause(tries),
+                Err(PushFault::Busy { .. }) => yields = pause(yields),
             }
         }
         unreachable!()
     }
 
-    fn pop_waiting<W: Said, R: Wait>(
-        &self,
-        rt: &R,
-        seat: &mut Seat<(), View<K>>,
-        caller: u32,
-        call: DequeCall,
-    ) -> Option<u64>
-        requires seat { IsSeatOf self.now seat.old }
-        requires rests { seat.old.me.0.stage ≡ Idle }
-        requires caller { seat.old.me.0.number ≡ caller }
-        requires own { IsPage seat.old.me.0.number (page_of seat.old.me.0) }
-        requires said { W.call ≡ call }
-        requires pop { IsPop call }
-        ensures seat { IsSeatOf self.now seat.new }
-        ensures waits { WaitsPop K.keeps call seat.old.me.0 seat.new.me.0 result }
+    fn pop_until_done<R: Wait>(&self, rt: &R, seat: &mut DequeSeat<K>, side: Side) -> Option<u64>
+        requires seat { IsSeatOf self.now.table seat.old }
+        requires rests { IsResting seat.old }
+        ensures seat { IsSeatOf self.now.table seat.new }
+        ensures rests { IsResting seat.new }
+        ensures waits { WaitsPop K.keeps (plan_of self.now.table) (call_of (Aim.Pop side)) (view_of seat.old) (view_of seat.new) result }
     {
-        let mut tries = 0;
+        let mut yields = 1;
         for _ in rt.forever() {
-            match self.pop_once::<W>(seat, caller, call) {
+            match self.pop_once(seat, side) {
                 Ok(taken) => return taken,
-                Err(_) => tries = pause(tries),
+                Err(_) => yields = pause(yields),
             }
         }
         unreachable!()
+    }
+
+    // A push at this end, with a pass.
+    fn push_waiting<R: Wait>(
+        &self,
+        rt: &R,
+        pass: &mut DequePass<K>,
+        side: Side,
+        item: u64,
+    ) -> Result<(), Full>
+        requires opening { pass_opening pass.old ≡ opening_of self.now }
+        requires kept { K.keeps (keeper_of self.now) item }
+        ensures pass { IsSamePass pass.old pass.new }
+        ensures history { PushEnters (capacity_of self.now) (change pass.old pass.new) (call_of (Aim.Push side item)) (last_push result) }
+        ensures cause { PushWaitIsCaused (capacity_of self.now) (callers_of self.now) (change pass.old pass.new) (call_of (Aim.Push side item)) result }
+        ensures callers { IsOfCallers (callers_of self.now) (page pass.new).seen }
+        ensures alone { SeesOwnAlone (callers_of self.now) (page pass.new) }
+    {
+        self.push_until_done(rt, &mut pass.seat, side, item)
+    }
+
+    // The same of a pop.
+    fn pop_waiting<R: Wait>(&self, rt: &R, pass: &mut DequePass<K>, side: Side) -> Option<u64>
+        requires opening { pass_opening pass.old ≡ opening_of self.now }
+        ensures pass { IsSamePass pass.old pass.new }
+        ensures history { PopEnters (capacity_of self.now) (change pass.old pass.new) (call_of (Aim.Pop side)) (last_pop result) }
+        ensures cause { PopWaitIsCaused (capacity_of self.now) (callers_of self.now) (change pass.old pass.new) (call_of (Aim.Pop side)) result }
+        ensures kept { IfSome result (λ item. K.keeps (keeper_of self.now) item) }
+        ensures callers { IsOfCallers (callers_of self.now) (page pass.new).seen }
+        ensures alone { SeesOwnAlone (callers_of self.now) (page pass.new) }
+    {
+        self.pop_until_done(rt, &mut pass.seat, side)
     }
 
     /// Adds an item at the back, or replies that the deque was full in its turn. It repeats
@@ -96,13 +95,12 @@ impl<K: Keeps> Deque<K> {
         requires opening { pass_opening pass.old ≡ opening_of self.now }
         requires kept { K.keeps (keeper_of self.now) item }
         ensures pass { IsSamePass pass.old pass.new }
-        ensures history { PushIsEntered self.now pass.old pass.new (DequeCall.PushBack item) result }
-        ensures cause { PushWaitIsCaused self.now pass.old pass.new (DequeCall.PushBack item) result }
-        ensures callers { SeesCallers self.now pass.old pass.new }
-        ensures alone { SeesOwnAlone self.now pass.old pass.new }
+        ensures history { PushEnters (capacity_of self.now) (change pass.old pass.new) (DequeCall.PushBack item) (last_push result) }
+        ensures cause { PushWaitIsCaused (capacity_of self.now) (callers_of self.now) (change pass.old pass.new) (DequeCall.PushBack item) result }
+        ensures callers { IsOfCallers (callers_of self.now) (page pass.new).seen }
+        ensures alone { SeesOwnAlone (callers_of self.now) (page pass.new) }
     {
-        let call = DequeCall::PushBack { item };
-        self.push_waiting::<Brand, R>(rt, &mut pass.seat, pass.caller, call, item)
+        self.push_waiting(rt, pass, Side::Back, item)
     }
 
     /// Adds an item at the front, or replies that the deque was full in its turn. It repeats
@@ -116,13 +114,12 @@ impl<K: Keeps> Deque<K> {
         requires opening { pass_opening pass.old ≡ opening_of self.now }
         requires kept { K.keeps (keeper_of self.now) item }
         ensures pass { IsSamePass pass.old pass.new }
-        ensures history { PushIsEntered self.now pass.old pass.new (DequeCall.PushFront item) result }
-        ensures cause { PushWaitIsCaused self.now pass.old pass.new (DequeCall.PushFront item) result }
-        ensures callers { SeesCallers self.now pass.old pass.new }
-        ensures alone { SeesOwnAlone self.now pass.old pass.new }
+        ensures history { PushEnters (capacity_of self.now) (change pass.old pass.new) (DequeCall.PushFront item) (last_push result) }
+        ensures cause { PushWaitIsCaused (capacity_of self.now) (callers_of self.now) (change pass.old pass.new) (DequeCall.PushFront item) result }
+        ensures callers { IsOfCallers (callers_of self.now) (page pass.new).seen }
+        ensures alone { SeesOwnAlone (callers_of self.now) (page pass.new) }
     {
-        let call = DequeCall::PushFront { item };
-        self.push_waiting::<Brand, R>(rt, &mut pass.seat, pass.caller, call, item)
+        self.push_waiting(rt, pass, Side::Front, item)
     }
 
     /// Takes the item at the back, or replies `None` where the deque was empty in its turn. It repeats
@@ -130,13 +127,13 @@ impl<K: Keeps> Deque<K> {
     pub fn pop_back<R: Wait>(&self, rt: &R, pass: &mut DequePass<K>) -> Option<u64>
         requires opening { pass_opening pass.old ≡ opening_of self.now }
         ensures pass { IsSamePass pass.old pass.new }
-        ensures history { PopIsEntered self.now pass.old pass.new DequeCall.PopBack result }
-        ensures cause { PopWaitIsCaused self.now pass.old pass.new DequeCall.PopBack result }
+        ensures history { PopEnters (capacity_of self.now) (change pass.old pass.new) DequeCall.PopBack (last_pop result) }
+        ensures cause { PopWaitIsCaused (capacity_of self.now) (callers_of self.now) (change pass.old pass.new) DequeCall.PopBack result }
         ensures kept { IfSome result (λ item. K.keeps (keeper_of self.now) item) }
-        ensures callers { SeesCallers self.now pass.old pass.new }
-        ensures alone { SeesOwnAlone self.now pass.old pass.new }
+        ensures callers { IsOfCallers (callers_of self.now) (page pass.new).seen }
+        ensures alone { SeesOwnAlone (callers_of self.now) (page pass.new) }
     {
-        self.pop_waiting::<Brand, R>(rt, &mut pass.seat, pass.caller, DequeCall::PopBack)
+        self.pop_waiting(rt, pass, Side::Back)
     }
 
     /// Takes the item at the front, or replies `None` where the deque was empty in its turn. It repeats
@@ -144,12 +141,12 @@ impl<K: Keeps> Deque<K> {
     pub fn pop_front<R: Wait>(&self, rt: &R, pass: &mut DequePass<K>) -> Option<u64>
         requires opening { pass_opening pass.old ≡ opening_of self.now }
         ensures pass { IsSamePass pass.old pass.new }
-        ensures history { PopIsEntered self.now pass.old pass.new DequeCall.PopFront result }
-        ensures cause { PopWaitIsCaused self.now pass.old pass.new DequeCall.PopFront result }
+        ensures history { PopEnters (capacity_of self.now) (change pass.old pass.new) DequeCall.PopFront (last_pop result) }
+        ensures cause { PopWaitIsCaused (capacity_of self.now) (callers_of self.now) (change pass.old pass.new) DequeCall.PopFront result }
         ensures kept { IfSome result (λ item. K.keeps (keeper_of self.now) item) }
-        ensures callers { SeesCallers self.now pass.old pass.new }
-        ensures alone { SeesOwnAlone self.now pass.old pass.new }
+        ensures callers { IsOfCallers (callers_of self.now) (page pass.new).seen }
+        ensures alone { SeesOwnAlone (callers_of self.now) (page pass.new) }
     {
-        self.pop_waiting::<Brand, R>(rt, &mut pass.seat, pass.caller, DequeCall::PopFront)
+        self.pop_waiting(rt, pass, Side::Front)
     }
 }

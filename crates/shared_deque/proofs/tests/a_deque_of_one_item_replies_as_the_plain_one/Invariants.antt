@@ -1,5 +1,6 @@
 use Rattle.std.proofs.Common.{◌≡◌}
-use Rattle.shared_deque.specs.Passes.{pass_opening, opening_of}
+use Rattle.pass_table.specs.Passes.{pass_opening}
+use Rattle.shared_deque.specs.Deques.{opening_of}
 use Rattle.shared_deque.proofs.tests.a_deque_of_one_item_replies_as_the_plain_one.Given as goal
 
 abbrev pub invariant-loop-call : goal.invariant-loop-call

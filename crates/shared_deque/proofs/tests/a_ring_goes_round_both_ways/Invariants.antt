@@ -1,5 +1,6 @@
 use Rattle.std.proofs.Common.{◌≡◌}
-use Rattle.shared_deque.specs.Passes.{pass_opening, opening_of, caller_of}
+use Rattle.pass_table.specs.Passes.{pass_opening, caller_of}
+use Rattle.shared_deque.specs.Deques.{opening_of}
 use Rattle.shared_deque.proofs.tests.a_ring_goes_round_both_ways.Given as goal
 
 abbrev pub invariant-loop : goal.invariant-loop

@@ -1,5 +1,6 @@
 use Rattle.std.proofs.Common.{◌≡◌}
-use Rattle.shared_deque.specs.Passes.{pass_opening, opening_of}
+use Rattle.pass_table.specs.Passes.{pass_opening}
+use Rattle.shared_deque.specs.Deques.{opening_of}
 use Rattle.shared_deque.proofs.tests.pop_until_found.Given as goal
 
 abbrev pub invariant-loop : goal.invariant-loop

@@ -1,6 +1,7 @@
 use Rattle.std.proofs.Common.{◌≡◌}
-use Rattle.shared_deque.specs.Passes.{pass_opening, opening_of}
-use Rattle.shared_deque.specs.Calls.{IsSamePass}
+use Rattle.pass_table.specs.Passes.{pass_opening}
+use Rattle.shared_deque.specs.Deques.{opening_of}
+use Rattle.pass_table.specs.Passes.{IsSamePass}
 use Rattle.shared_deque.proofs.tests.replies_so.Given as goal
 
 abbrev pub invariant-loop-call : goal.invariant-loop-call

@@ -1,7 +1,8 @@
 use Rattle.std.proofs.Common.{◌≡◌, vec_len}
 use Rattle.std.specs.List.{All}
-use Rattle.shared_deque.specs.Passes.{pass_opening, opening_of}
-use Rattle.shared_deque.specs.Openings.{ArePassesOf}
+use Rattle.pass_table.specs.Passes.{pass_opening}
+use Rattle.shared_deque.specs.Deques.{opening_of}
+use Rattle.shared_deque.specs.Opened.{ArePassesOf}
 use Rattle.shared_deque.proofs.tests.workers_of.Given as goal
 
 abbrev pub invariant-loop-pass : goal.invariant-loop-pass

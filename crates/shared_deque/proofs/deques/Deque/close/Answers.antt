@@ -1,7 +1,65 @@
-use Rattle.shared_deque.proofs.LastStates.{closes}
+use Rattle.std.proofs.Common.{refl, sym, arith, subst, ◌≤◌, ◌≡◌}
+use Rattle.seq_objects.specs.Meanings.{DequeOpens, DequeSteps}
+use Rattle.pass_table.specs.Passes.{plan_of}
+use Rattle.pass_table.proofs.LooksBack.{looked_back, still_of_opening, still_of_all_callers}
+use Rattle.shared_deque.specs.Rule.{deque_terms}
+use Rattle.shared_deque.proofs.LastStates.{first_shows, closed_size, closes_deque}
 use Rattle.shared_deque.proofs.deques.Deque.close.Goals as goal
+
+pub most_items-most-requires-clause-first : goal.most_items-most-requires-clause-first
+most_items-most-requires-clause-first g c = first_shows g.K.Keeps.keeps _
+
+pub returns-in_default-clause-err : goal.returns-in_default-clause-err
+returns-in_default-clause-err g c =
+    let T = deque_terms g.K.Keeps.keeps in
+    let t = c.args.self.table in
+    let plan = plan_of t in
+    let most = c.most_items-most.result in
+    let looked = looked_back T DequeOpens DequeSteps plan c.args.passes.len most c.args.passes.items c.as_mut_slice.result.now c.most_items-most.new.passes (omega (arith, c.args.passes.ok.0)) c.as_mut_slice.ensures.value c.most_items-most.ensures in
+    (refl, (most, looked))
+
+pub returns-in_default-clause-again : goal.returns-in_default-clause-again
+returns-in_default-clause-again g c =
+    let T = deque_terms g.K.Keeps.keeps in
+    let t = c.args.self.table in
+    let plan = plan_of t in
+    let most = c.most_items-most.result in
+    let looked = looked_back T DequeOpens DequeSteps plan c.args.passes.len most c.args.passes.items c.as_mut_slice.result.now c.most_items-most.new.passes (omega (arith, c.args.passes.ok.0)) c.as_mut_slice.ensures.value c.most_items-most.ensures in
+    (still_of_opening T DequeOpens DequeSteps plan t most c.args.passes.items _ looked c.requires.opening, still_of_all_callers T DequeOpens DequeSteps plan t most c.args.passes.items _ looked c.requires.all)
+
+pub close-closed-requires-clause-opening : goal.close-closed-requires-clause-opening
+close-closed-requires-clause-opening g c =
+    let T = deque_terms g.K.Keeps.keeps in
+    let t = c.args.self.table in
+    let plan = plan_of t in
+    let most = c.most_items-most.result in
+    let looked = looked_back T DequeOpens DequeSteps plan c.args.passes.len most c.args.passes.items c.as_mut_slice.result.now c.most_items-most.new.passes (omega (arith, c.args.passes.ok.0)) c.as_mut_slice.ensures.value c.most_items-most.ensures in
+    still_of_opening T DequeOpens DequeSteps plan t most c.args.passes.items _ looked c.requires.opening
+
+pub close-closed-requires-clause-all : goal.close-closed-requires-clause-all
+close-closed-requires-clause-all g c =
+    let T = deque_terms g.K.Keeps.keeps in
+    let t = c.args.self.table in
+    let plan = plan_of t in
+    let most = c.most_items-most.result in
+    let looked = looked_back T DequeOpens DequeSteps plan c.args.passes.len most c.args.passes.items c.as_mut_slice.result.now c.most_items-most.new.passes (omega (arith, c.args.passes.ok.0)) c.as_mut_slice.ensures.value c.most_items-most.ensures in
+    still_of_all_callers T DequeOpens DequeSteps plan t most c.args.passes.items _ looked c.requires.all
+
+pub read_ring-items-requires-clause-room : goal.read_ring-items-requires-clause-room
+read_ring-items-requires-clause-room g c =
+    let T = deque_terms g.K.Keeps.keeps in
+    let t = c.args.self.table in
+    let plan = plan_of t in
+    let most = c.most_items-most.result in
+    let looked = looked_back T DequeOpens DequeSteps plan c.args.passes.len most c.args.passes.items c.as_mut_slice.result.now c.most_items-most.new.passes (omega (arith, c.args.passes.ok.0)) c.as_mut_slice.ensures.value c.most_items-most.ensures in
+    let few = closed_size g.K.Keeps.keeps t c.args.passes.items _ most looked _ _ c.close-closed.ensures.closes c.requires.all in
+    (c.in-Ok.ensures.items, c.in-Ok.ensures.len, omega (arith, few, c.in-Ok.ensures.capacity))
 
 pub returns-clause-ok : goal.returns-clause-ok
 returns-clause-ok g c =
-    let v = c.gather-seat.ensures.view in
-    closes (g.K.Keeps.keeps c.args.self.table.shared.key.keeper) c.args.self _ _ _ c.gather-seat.result.me.0 _ _ _ c.close_with-closed.ensures.values.2 v.0 v.1 c.gather-seat.ensures.gathered c.requires.all c.args.self.planned c.read_ring-items.ensures
+    let T = deque_terms g.K.Keeps.keeps in
+    let t = c.args.self.table in
+    let plan = plan_of t in
+    let most = c.most_items-most.result in
+    let looked = looked_back T DequeOpens DequeSteps plan c.args.passes.len most c.args.passes.items c.as_mut_slice.result.now c.most_items-most.new.passes (omega (arith, c.args.passes.ok.0)) c.as_mut_slice.ensures.value c.most_items-most.ensures in
+    closes_deque g.K.Keeps.keeps t c.args.passes.items _ most looked _ _ c.close-closed.ensures.closes c.args.self _ _ refl c.args.self.planned c.read_ring-items.ensures

@@ -1,15 +1,5 @@
-use Rattle.std.proofs.Common.{ap, sym, ◌∙◌, arith, ◌≡◌}
-use Rattle.shared_deque.specs.Words.{value_place}
-use Rattle.shared_deque.specs.Rule.{own_cell}
-use Rattle.shared_deque.proofs.CellSteps.{looks_at_cell}
+use Rattle.shared_deque.proofs.KindSteps.{may_look_at_cell}
 use Rattle.shared_deque.proofs.deques.Deque.look_at_cell.Goals as goal
 
-pub load-requires : goal.load-requires
-load-requires g c =
-    let seat = c.requires.seat in
-    let cell = c.requires.cell in
-    let place : c.value_at.result ≡ value_place (own_cell c.args.seat.now.me.0) = c.value_at.ensures ∙ ap value_place (sym cell.0) in (
-      ap (λ o. o.table) seat.opening,
-      omega (arith, c.args.self.now.wide, c.args.self.now.planned),
-      looks_at_cell _ _ _ _ c.args.seat.now.me _ place seat.role c.requires.claimed seat.joined,
-    )
+pub load-requires-clause-may : goal.load-requires-clause-may
+load-requires-clause-may g c = may_look_at_cell g.K.Keeps.keeps _ _ c.args.seat.now.seat.me c.args.aim c.args.ends c.args.cell _ c.requires.row.0 c.requires.cell.0 c.value_at.ensures

@@ -1,11 +1,5 @@
-use Rattle.std.proofs.Common.{ap, arith}
-use Rattle.shared_deque.proofs.EndsLooks.{looks_at_ends}
+use Rattle.shared_deque.proofs.KindSteps.{may_look_at_ends}
 use Rattle.shared_deque.proofs.deques.Deque.look_at_ends.Goals as goal
 
-pub load-requires : goal.load-requires
-load-requires g c =
-    let seat = c.requires.seat in (
-      ap (λ o. o.table) seat.opening,
-      omega (arith, c.args.self.now.wide),
-      looks_at_ends _ _ _ _ c.args.seat.now.me _ seat.role c.requires.rests seat.joined c.requires.kept,
-    )
+pub load-requires-clause-may : goal.load-requires-clause-may
+load-requires-clause-may g c = may_look_at_ends g.K.Keeps.keeps _ _ c.args.seat.now.seat.me c.args.aim c.requires.row.0 c.requires.kept

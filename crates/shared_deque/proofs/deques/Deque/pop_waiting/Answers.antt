@@ -1,11 +1,17 @@
-use Rattle.shared_deque.proofs.WaitSteps.{waited_pop, waits_pop}
+use Rattle.std.proofs.Common.{Ok}
+use Rattle.shared_deque.specs.declared.sides.Aim.TheVariants.{Pop}
+use Rattle.shared_deque.specs.Aims.{call_of}
+use Rattle.shared_deque.proofs.PassClauses.{pop_history, pop_wait_cause, sees_own, taken_kept}
 use Rattle.shared_deque.proofs.deques.Deque.pop_waiting.Goals as goal
 
-pub returns-in-Ok-clause-waits : goal.returns-in-Ok-clause-waits
-returns-in-Ok-clause-waits g c = waits_pop g.K.Keeps.keeps _ c.args.seat.now.me.0 c.loop.seat.me.0 _ c.in-Ok.taken c.requires.own c.loop.invariant.waited c.in-Ok.ensures.tries
+pub returns-clause-history : goal.returns-clause-history
+returns-clause-history g c = pop_history g.K.Keeps.keeps _ (call_of (Pop c.args.side)) _ _ (Ok c.pop_until_done.result) _ c.pop_until_done.ensures.waits.goes
 
-pub loop-preserved : goal.loop-preserved
-loop-preserved g c = record {
-  seat = c.in-Err.ensures.seat;
-  waited = waited_pop g.K.Keeps.keeps _ c.args.seat.now.me.0 c.loop.seat.me.0 _ _ c.loop.invariant.waited c.in-Err.ensures.tries;
-}
+pub returns-clause-cause : goal.returns-clause-cause
+returns-clause-cause g c = pop_wait_cause g.K.Keeps.keeps _ _ _ _ _ c.pop_until_done.ensures.waits
+
+pub returns-clause-kept : goal.returns-clause-kept
+returns-clause-kept g c = taken_kept (g.K.Keeps.keeps c.args.self.now.table.table.shared.key.keeper) c.pop_until_done.result c.pop_until_done.ensures.waits.kept
+
+pub returns-clause-alone : goal.returns-clause-alone
+returns-clause-alone g c = sees_own g.K.Keeps.keeps _ (call_of (Pop c.args.side)) _ _ _ _ c.pop_until_done.ensures.waits.goes

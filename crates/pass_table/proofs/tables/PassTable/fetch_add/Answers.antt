@@ -1,0 +1,13 @@
+use Rattle.std.proofs.Common.{ap}
+use Rattle.std.specs.Prelude.{◌+◌, ◌%◌, ◌^◌}
+use Rattle.pass_table.proofs.OwnSteps.{allows}
+use Rattle.pass_table.proofs.tables.PassTable.fetch_add.Goals as goal
+
+pub fetch_add-requires : goal.fetch_add-requires
+fetch_add-requires g c =
+    let me = c.args.seat.now.seat.me in (
+      ap (λ o. o.table) c.requires.seat,
+      c.requires.word,
+      allows g.C.Client.terms g.C.Object.Object.opens g.C.Object.Object.step c.args.self.now.table.shared.key _ _ _ me (λ n. (n + c.args.more) % 2 ^ 64) (λ n. n) (λ p. g.M.Kind.tells p me.0.number me.0.part me.1)
+          c.args.seat.now.role c.args.seat.now.single c.requires.permits,
+    )

@@ -1,0 +1,14 @@
+pub use Rattle.pass_book.specs.Histories
+pub use Rattle.pass_book.specs.Pages
+pub use Rattle.atomic_table.specs.Seated
+pub use Rattle.atomic_table.specs.Table
+pub mod Terms
+pub mod Words
+pub mod Views
+pub mod Rule
+pub mod Steps
+pub mod Passes
+pub mod Openings
+pub mod Closings
+pub mod Calls
+pub mod Looks

@@ -1,0 +1,12 @@
+use Rattle.std.proofs.Common.{sym, ◌∙◌}
+use Rattle.shared_deque.proofs.PassClauses.{push_history, push_cause, push_alone}
+use Rattle.shared_deque.proofs.deques.Deque.try_push.Goals as goal
+
+pub returns-clause-history : goal.returns-clause-history
+returns-clause-history g c = push_history g.K.Keeps.keeps _ _ _ _ _ _ c.push_once.ensures.tries.goes
+
+pub returns-clause-cause : goal.returns-clause-cause
+returns-clause-cause g c = push_cause g.K.Keeps.keeps _ _ _ _ _ c.push_once.ensures.tries
+
+pub returns-clause-alone : goal.returns-clause-alone
+returns-clause-alone g c = push_alone g.K.Keeps.keeps _ _ _ _ _ c.push_once.ensures.tries
