@@ -1,3 +1,4 @@
 pub mod Halves
 pub mod Joined
 pub mod Ranges
+pub mod Steals

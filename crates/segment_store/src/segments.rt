@@ -1,4 +1,5 @@
 ghost use Rattle.std.specs.Prelude.{◌≡◌, ℕ, ◌<◌, ◌≤◌, ◌+◌, ◌/◌, ◌^◌, ◌↔◌, [], ◌∷◌, ◌++◌, IfErr, IfNone, IfOk, IfSome, IsNone, IsOk, OnErr, OnOk, OnSome, drop, length, take};
+ghost use Rattle.segment_store.specs.Steals.{Steals};
 
 use crate::blocks::{Block, PLACES, copied, split_before};
 use std::alloc::{AllocError, Global};
@@ -49,13 +50,14 @@ impl Segment {
         self.end - self.start
     }
 
-    /// Makes room for a push, where there is none yet. An `Err` is want of memory, and leaves the items
-    /// and the room.
+    /// Makes room for a push, where there is none yet. An `Err` is want of memory, and changes
+    /// nothing.
     pub fn reserve(&mut self) -> Result<(), AllocError>
         ensures items { self.new.items ≡ self.old.items }
         ensures room { OnOk result (1 ≤ self.new.spare) }
         ensures enough { 1 ≤ self.old.spare → IsOk result }
         ensures kept { self.old.spare ≤ self.new.spare }
+        ensures err { OnErr result (self.new ≡ self.old) }
     {
         if self.end as usize / PLACES == self.blocks.len() {
             let block = Box::new(*self.blocks.allocator(), [0; PLACES])?;
@@ -116,6 +118,26 @@ impl Segment {
         self.start = cut - moved;
         self.end -= moved;
         Ok(front)
+    }
+
+    /// Takes the last item of the first half of `other`, rounded down, and moves the items before it to
+    /// `own`, which is empty. What is behind it stays in `other`. One item alone is taken as it is. Where
+    /// there is no memory to cut `other`, its last item is taken and nothing is moved, so it never
+    /// answers want of memory. `None` is the answer where `other` is empty, too.
+    pub fn steal_half(own: &mut Segment, other: &mut Segment) -> Option<u64>
+        requires empty { own.old.items ≡ [] }
+        ensures empty { IsNone result ↔ (other.old.items ≡ []) }
+        ensures none { IfNone result ((own.new ≡ own.old) × (other.new ≡ other.old)) }
+        ensures some { IfSome result (λ item. Steals other.old.items own.new.items other.new.items item) }
+    {
+        if other.len() < 2 {
+            return other.pop();
+        }
+        let Ok(half) = other.split_half() else {
+            return other.pop();
+        };
+        *own = half;
+        own.pop()
     }
 
     /// The items in order. An `Err` is want of memory, and hands the segment back as it was.

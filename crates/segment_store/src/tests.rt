@@ -4,7 +4,7 @@
 ghost use Rattle.std.specs.Prelude.{ℕ, ◌+◌, ◌≤◌, ◌^◌, length};
 
 use crate::Segment;
-use std::alloc::AllocError;
+use std::alloc::{AllocError, Global};
 use std::process::Abort;
 use std::test::Fail;
 
@@ -82,5 +82,38 @@ fn a_half_grows_and_is_split_again(rt: HostRuntime) -> Result<(), Fail> {
     let front = first_half(&mut segment)?;
     assert!(rt; items_of(front)?.iter().copied().eq(32..82));
     assert!(rt; items_of(segment)?.iter().copied().eq(82..132));
+    Ok(())
+}
+
+/// Steals from a segment of the numbers `0..count`, and says whether half of it went. Where memory was
+/// refused the last item went alone.
+fn steals_half(rt: &impl Abort, alloc: Global, count: u32) -> Result<bool, AllocError>
+    requires { count ≤ 2 ^ 24 }
+{
+    let mut other = Segment::new(alloc);
+    push_range(&mut other, 0, count)?;
+    let mut own = Segment::new(alloc);
+    let taken = Segment::steal_half(&mut own, &mut other);
+    let moved = own.len();
+    if count < 2 || moved == 0 && taken == Some(u64::from(count) - 1) {
+        assert_eq!(rt; taken, u64::from(count).checked_sub(1));
+        assert_pops(rt, own, 0, 0);
+        assert_pops(rt, other, 0, count.saturating_sub(1));
+        return Ok(count < 2);
+    }
+    let half = count / 2;
+    assert_eq!(rt; taken, Some(u64::from(half) - 1));
+    assert_pops(rt, own, 0, half - 1);
+    assert_pops(rt, other, half, count);
+    Ok(true)
+}
+
+#[test]
+fn half_is_stolen_or_the_last_item(rt: HostRuntime) -> Result<(), Fail> {
+    for count in [0, 1, 2, 3, 31, 32, 33, 64] {
+        let first = steals_half(&rt, rt.alloc(), count)?;
+        let again = steals_half(&rt, rt.alloc(), count)?;
+        assert!(rt; first || again);
+    }
     Ok(())
 }

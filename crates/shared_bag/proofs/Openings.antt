@@ -1,5 +1,5 @@
 -- A bag opens with an empty history and empty segments, and its opener makes one pass for each caller.
-use Rattle.std.proofs.Common.{◌≡◌, ◌≢◌, ℕ, zero, suc, ◌+◌, ◌<◌, ◌≤◌, List, [], ◌∷◌, length, map, set, refl, ap, sym, ◌∙◌, subst, arith, ⊎_elim, get_or, cond, ne_eqb, Option, Some, length-set}
+use Rattle.std.proofs.Common.{◌≡◌, ◌≢◌, ℕ, zero, suc, ◌+◌, ◌*◌, ◌<◌, ◌≤◌, List, [], ◌∷◌, length, map, set, refl, ap, sym, ◌∙◌, subst, arith, ⊎_elim, get_or, cond, ne_eqb, Option, Some, length-set}
 use Rattle.std.specs.Prelude.{replicate}
 use Rattle.std.proofs.lemmas.List.Elements.{All-nil}
 use Rattle.std.proofs.lemmas.List.{length-replicate, length-map}
@@ -48,7 +48,7 @@ module _ {K : Type 0} (keeps : ℕ → Type 0) (plan : Plan K) where
   first_view (suc k) v at = absurd (some-ne-none v (sym at))
 
   -- the rule holds of a new table
-  pub opens : IsShape plan.shape → Kept keeps plan (opening (replicate (all_segments plan.shape + 1) 0) (replicate (all_segments plan.shape) blank) (opener plan))
+  pub opens : IsShape plan.shape → Kept keeps plan (opening (replicate (8 * all_segments plan.shape + 1) 0) (replicate (all_segments plan.shape) blank) (opener plan))
   opens shaped =
       let n : ℕ = all_segments plan.shape in
       let has : ℕ → List ℕ = λ _. [] in
@@ -59,13 +59,13 @@ module _ {K : Type 0} (keeps : ℕ → Type 0) (plan : Plan K) where
         made = 0;
         shaped = shaped;
         most_made = omega arith;
-        wide = length-replicate (n + 1) 0;
+        wide = length-replicate (8 * n + 1) 0;
         shelf = length-map (replicate n blank) some ∙ length-replicate n blank;
         log = record { callers = All-nil (λ (e : BagEntry). e.caller < 0); calls_kept = All-nil _ };
         leaves = (refl, sym empty);
-        count = all_zero (n + 1) 0 ∙ sym (ap length empty);
+        count = all_zero (8 * n + 1) 0 ∙ sym (ap length empty);
         segments = λ k within. record {
-          named = (let z = all_zero (n + 1) (turn_place k) in omega arith);
+          named = (let z = all_zero (8 * n + 1) (turn_place k) in omega arith);
           home = λ free. (0, all_home n k within);
           short = omega arith;
           unused = λ past. refl;
@@ -74,15 +74,15 @@ module _ {K : Type 0} (keeps : ℕ → Type 0) (plan : Plan K) where
         plans = λ k v at. subst (λ x. KnowsPlan plan x x.role) (first_view k v at).1 (refl, refl);
         seats = λ k v at.
             let here = first_view k v at in
-            subst (λ j. FitsAs (turn_in (replicate (n + 1) 0)) has 0 (λ _. 0) [] j v v.role) (sym here.0)
-            (subst (λ x. FitsAs (turn_in (replicate (n + 1) 0)) has 0 (λ _. 0) [] 0 x x.role) here.1 (refl, refl));
+            subst (λ j. FitsAs (turn_in (replicate (8 * n + 1) 0)) has 0 (λ _. 0) [] j v v.role) (sym here.0)
+            (subst (λ x. FitsAs (turn_in (replicate (8 * n + 1) 0)) has 0 (λ _. 0) [] 0 x x.role) here.1 (refl, refl));
       }
 
   -- the same, of words that are all 0 and of empty segments
-  pub opens_with : (words : List ℕ) (slots : List (Option Contents)) → IsShape plan.shape → words ≡ replicate (all_segments plan.shape + 1) 0 → slots ≡ replicate (all_segments plan.shape) blank → Kept keeps plan (opening words slots (opener plan))
+  pub opens_with : (words : List ℕ) (slots : List (Option Contents)) → IsShape plan.shape → words ≡ replicate (8 * all_segments plan.shape + 1) 0 → slots ≡ replicate (all_segments plan.shape) blank → Kept keeps plan (opening words slots (opener plan))
   opens_with words slots shaped zeros blanks =
       subst (λ ws. Kept keeps plan (opening ws slots (opener plan))) (sym zeros)
-      (subst (λ xs. Kept keeps plan (opening (replicate (all_segments plan.shape + 1) 0) xs (opener plan))) (sym blanks) (opens shaped))
+      (subst (λ xs. Kept keeps plan (opening (replicate (8 * all_segments plan.shape + 1) 0) xs (opener plan))) (sym blanks) (opens shaped))
 
   -- a seat that is not the opener's fits as before, once there is another caller
   raised : (turn : ℕ → ℕ) (has : ℕ → List ℕ) (made room : ℕ) (seat : ℕ → ℕ) (h : List BagEntry) (k : ℕ) (u : View K) (role : Role) → k ≢ 0

@@ -1,5 +1,5 @@
 -- The rule of a bag's table: there is one legal history, which leaves the items of all segments, at home or moved out, of which each view has seen a beginning with all of its caller's entries in it.
-use Rattle.std.specs.Prelude.{◌≡◌, ◌≢◌, ℕ, ◌+◌, ◌/◌, ◌<◌, ◌≤◌, List, [], length, slice_index, All, Option, Some}
+use Rattle.std.specs.Prelude.{◌≡◌, ◌≢◌, ℕ, ◌+◌, ◌*◌, ◌/◌, ◌<◌, ◌≤◌, List, [], length, slice_index, All, Option, Some}
 use mathlib.Core.Option.{some}
 use mathlib.Core.List.{IsPrefix}
 use lib.ListN.{get_elem?}
@@ -108,7 +108,7 @@ module _ {K : Type 0} where
     pub made : ℕ
     pub shaped : IsShape plan.shape
     pub most_made : made ≤ plan.shape.callers
-    pub wide : length s.words ≡ all_segments plan.shape + 1
+    pub wide : length s.words ≡ 8 * all_segments plan.shape + 1
     pub shelf : length s.homes ≡ all_segments plan.shape
     pub log : IsLog keeps made history
     pub leaves : LeavesItems history (items_of has (all_segments plan.shape))

@@ -26,12 +26,13 @@ locale_room shape = shape.segments * shape.room
 abbrev pub IsOwn : Shape → ℕ → ℕ → Type 0
 IsOwn shape caller segment = segment / shape.segments ≡ caller % shape.locales
 
+-- each turn stands eight words, a cache line, behind the one before
 abbrev pub turn_place : ℕ → ℕ
-turn_place segment = segment + 1
+turn_place segment = 8 * segment + 8
 
 -- the segment whose turn stands at this place
 abbrev pub segment_at : ℕ → ℕ
-segment_at place = place - 1
+segment_at place = place / 8 - 1
 
 abbrev pub turn_in : List ℕ → ℕ → ℕ
 turn_in words segment = slice_index words (turn_place segment)

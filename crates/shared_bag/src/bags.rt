@@ -16,7 +16,7 @@ pub struct Bag<K: Keeps> {
     pub(crate) shape: Shape,
     pub(crate) alloc: Global,
     ghost planned: { table.shared.key.shape ≡ shape },
-    ghost wide: { table.shared.table_id.words ≡ all_segments shape + 1 },
+    ghost wide: { table.shared.table_id.words ≡ 8 * all_segments shape + 1 },
     ghost some_caller: { 0 < table.shared.key.shape.callers },
     ghost shaped: { IsShape shape },
 }

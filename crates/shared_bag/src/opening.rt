@@ -41,12 +41,12 @@ fn check(shape: Shape) -> Result<(), BagFault>
     Ok(())
 }
 
-// The words of a new bag, all 0: the count, and a turn for each segment.
+// The words of a new bag, all 0: the count, and every eighth word behind it the turn of a segment.
 fn new_words(alloc: Global, segments: u32) -> Result<Vec<u64>, AllocError>
     requires { segments ≤ 1024 }
-    ensures { IfOk result (λ v. v.items ≡ replicate (segments + 1) 0) }
+    ensures { IfOk result (λ v. v.items ≡ replicate (8 * segments + 1) 0) }
 {
-    Vec::from_elem(alloc, 0u64, segments as usize + 1)
+    Vec::from_elem(alloc, 0u64, 8 * segments as usize + 1)
 }
 
 // The slots of a new bag, each with an empty segment.

@@ -1,5 +1,5 @@
 //! The numbers that a bag is opened with, and the order in which a caller tries the segments.
-ghost use Rattle.std.specs.Prelude.{◌≡◌, ◌<◌, ◌≤◌};
+ghost use Rattle.std.specs.Prelude.{◌≡◌, ◌<◌, ◌≤◌, ◌%◌, ◌/◌};
 ghost use Rattle.shared_bag.specs.Shapes.{all_segments, tried, IsShape};
 
 /// What a bag is opened with, in numbers.
@@ -12,6 +12,21 @@ pub struct Shape {
     /// How many items a segment holds at most.
     pub room: u32,
     pub callers: u32,
+}
+
+// Mostly the number is below the other one, and nothing is divided.
+fn modulo(number: u32, by: u32) -> u32
+    requires { 0 < by }
+    ensures { result ≡ number % by }
+{
+    if number < by { number } else { number % by }
+}
+
+fn quotient(number: u32, by: u32) -> u32
+    requires { 0 < by }
+    ensures { result ≡ number / by }
+{
+    if number < by { 0 } else { number / by }
 }
 
 impl Shape {
@@ -32,9 +47,14 @@ impl Shape {
         ensures segment { result ≡ tried self caller place }
         ensures within { result < all_segments self }
     {
-        let locale = (caller % self.locales + place / self.segments) % self.locales;
-        let number = (caller / self.locales % self.segments + place % self.segments)
-            % self.segments;
+        let locale = modulo(
+            modulo(caller, self.locales) + quotient(place, self.segments),
+            self.locales,
+        );
+        let number = modulo(
+            modulo(quotient(caller, self.locales), self.segments) + modulo(place, self.segments),
+            self.segments,
+        );
         locale * self.segments + number
     }
 }

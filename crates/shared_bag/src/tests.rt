@@ -1,4 +1,4 @@
-ghost use Rattle.std.specs.Prelude.{◌≡◌, ◌≤◌, ◌+◌, All, length, IfOk, IfSome};
+ghost use Rattle.std.specs.Prelude.{◌≡◌, ◌≤◌, ◌+◌, [], All, length, IfOk, IfSome, vec_capacity, vec_len};
 ghost use Rattle.shared_bag.specs.Passes.{pass_opening, opening_of, callers_of, caller_of};
 ghost use Rattle.shared_bag.specs.Calls.{IsSamePass};
 ghost use Rattle.shared_bag.specs.Openings.{IsNewPass, ArePassesOf};
@@ -351,5 +351,113 @@ fn numbers_out_of_range_are_refused_in_order(rt: HostRuntime) -> Result<(), Fail
             Some(want)
         );
     }
+    Ok(())
+}
+
+// Opens a bag of two callers, and once more where memory was refused.
+fn open_two(
+    alloc: Global,
+    locales: u8,
+    room: u32,
+) -> Result<(Bag<AnyItem>, Vec<BagPass<AnyItem>>), BagFault>
+    ensures passes { IfOk result (λ r. ArePassesOf r.0 r.1.items × (length r.1.items ≡ 2)) }
+    ensures two { IfOk result (λ r. callers_of r.0 ≡ 2) }
+{
+    match Bag::open(alloc, locales, 1, room, 2, AnyItem) {
+        Ok(opened) => Ok(opened),
+        Err(_) => Bag::open(alloc, locales, 1, room, 2, AnyItem),
+    }
+}
+
+fn room_for_two(alloc: Global) -> Result<Vec<BagPass<AnyItem>>, AllocError>
+    ensures { IfOk result (λ v. (v.items ≡ []) × (vec_len v ≡ 0) × (vec_capacity v ≡ 2)) }
+{
+    match Vec::with_capacity(alloc, 2) {
+        Ok(passes) => Ok(passes),
+        Err(_) => Vec::with_capacity(alloc, 2),
+    }
+}
+
+// Closes a bag of two callers, and once more where memory was refused.
+fn close_two(
+    alloc: Global,
+    bag: Bag<AnyItem>,
+    first: BagPass<AnyItem>,
+    second: BagPass<AnyItem>,
+) -> Result<Vec<u64>, Fail>
+    requires two { callers_of bag ≡ 2 }
+    requires first { (pass_opening first ≡ opening_of bag) × (caller_of first ≡ 0) }
+    requires second { (pass_opening second ≡ opening_of bag) × (caller_of second ≡ 1) }
+{
+    let mut passes = room_for_two(alloc)?;
+    passes.push_reserved(first);
+    passes.push_reserved(second);
+    match bag.close(passes) {
+        Ok(closed) => Ok(closed.items),
+        Err(back) => close_again(back),
+    }
+}
+
+// Adds an item by the call that waits, and once more where memory was refused.
+fn add_waiting_again<R: Wait>(
+    rt: &R,
+    bag: &Bag<AnyItem>,
+    pass: &mut BagPass<AnyItem>,
+    item: u64,
+) -> Result<(), AddFault>
+    requires { pass_opening pass.old ≡ opening_of bag.now }
+    ensures { IsSamePass pass.old pass.new }
+{
+    match bag.add(rt, pass, item) {
+        Err(AddFault::OutOfMemory) => bag.add(rt, pass, item),
+        answer => answer,
+    }
+}
+
+// The two passes of a bag, by their callers' numbers.
+fn two_passes(
+    alloc: Global,
+    locales: u8,
+    room: u32,
+) -> Result<(Bag<AnyItem>, BagPass<AnyItem>, BagPass<AnyItem>), Fail>
+    ensures { IfOk result (λ r. (callers_of r.0 ≡ 2) × ((pass_opening r.1 ≡ opening_of r.0) × (caller_of r.1 ≡ 0)) × ((pass_opening r.2 ≡ opening_of r.0) × (caller_of r.2 ≡ 1))) }
+{
+    let (bag, mut passes) = open_two(alloc, locales, room)?;
+    let Some(second) = take_pass(&bag, &mut passes) else {
+        return Err("there is no pass".into());
+    };
+    let Some(first) = take_pass(&bag, &mut passes) else {
+        return Err("there is no pass".into());
+    };
+    Ok((bag, first, second))
+}
+
+#[test]
+fn calls_that_wait_answer_as_a_plain_bag(rt: HostRuntime) -> Result<(), Fail> {
+    let (bag, mut first, mut second) = two_passes(rt.alloc(), 1, 2)?;
+    assert_eq!(rt; (first.caller(), second.caller()), (0, 1));
+    assert_eq!(rt; bag.remove(&rt, &mut first), None);
+    assert_eq!(rt; add_waiting_again(&rt, &bag, &mut first, 5), Ok(()));
+    let note = bag.note(&mut first);
+    bag.learn(&mut second, note);
+    assert_eq!(rt; add_waiting_again(&rt, &bag, &mut second, 6), Ok(()));
+    assert_eq!(rt;
+        add_waiting_again(&rt, &bag, &mut first, 7),
+        Err(AddFault::Full)
+    );
+    assert_eq!(rt; bag.remove(&rt, &mut first), Some(6));
+    assert_eq!(rt; bag.remove(&rt, &mut second), Some(5));
+    assert_eq!(rt; bag.remove(&rt, &mut second), None);
+    Ok(())
+}
+
+#[test]
+fn a_bag_of_two_callers_gives_what_both_added(rt: HostRuntime) -> Result<(), Fail> {
+    let (bag, mut first, mut second) = two_passes(rt.alloc(), 2, 1)?;
+    assert_eq!(rt; add_waiting_again(&rt, &bag, &mut first, 8), Ok(()));
+    assert_eq!(rt; add_waiting_again(&rt, &bag, &mut second, 9), Ok(()));
+    let mut items = close_two(rt.alloc(), bag, first, second)?;
+    items.sort_unstable();
+    assert_eq!(rt; items.as_slice(), [8, 9].as_slice());
     Ok(())
 }

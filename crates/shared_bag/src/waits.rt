@@ -17,20 +17,17 @@ use segment_store::Segment;
 use seq_objects::Keeps;
 use std::marker::Brand;
 use std::sync::Wait;
-use std::{hint, thread};
+use std::thread;
 
-// So many busy tries are followed by another at once. From then on the processor is given up between tries.
-const SPINS: u32 = 8;
+// How often the processor is given up between two tries at most.
+const MOST_YIELDS: u32 = 64;
 
-// Waits a little after this many busy tries.
-fn pause(tries: u32) -> u32 {
-    if tries < SPINS {
-        hint::spin_loop();
-        tries + 1
-    } else {
+// Gives the processor up so many times, and says how many times after the next busy try.
+fn pause(yields: u32) -> u32 {
+    for _ in 0..yields {
         thread::yield_now();
-        tries
     }
+    yields.saturating_mul(2).min(MOST_YIELDS)
 }
 
 impl<K: Keeps> Bag<K> {
@@ -51,13 +48,13 @@ impl<K: Keeps> Bag<K> {
         ensures rests { (seat.new.me.0.stage ≡ Idle) × (seat.new.me.1 ≡ []) }
         ensures waits { WaitsAdd item seat.old.me.0 seat.new.me.0 result }
     {
-        let mut tries = 0;
+        let mut yields = 1;
         for _ in rt.forever() {
             match self.add_once::<W>(seat, caller, item) {
                 Ok(()) => return Ok(()),
                 Err(AddFault::Full) => return Err(AddFault::Full),
                 Err(AddFault::OutOfMemory) => return Err(AddFault::OutOfMemory),
-                Err(AddFault::Busy) => tries = pause(tries),
+                Err(AddFault::Busy) => yields = pause(yields),
             }
         }
         unreachable!()
@@ -77,11 +74,11 @@ impl<K: Keeps> Bag<K> {
         ensures rests { (seat.new.me.0.stage ≡ Idle) × (seat.new.me.1 ≡ []) }
         ensures waits { WaitsRemove K.keeps seat.old.me.0 seat.new.me.0 result }
     {
-        let mut tries = 0;
+        let mut yields = 1;
         for _ in rt.forever() {
             match self.remove_once(seat, caller) {
                 Ok(taken) => return taken,
-                Err(_) => tries = pause(tries),
+                Err(_) => yields = pause(yields),
             }
         }
         unreachable!()

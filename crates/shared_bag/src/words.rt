@@ -15,8 +15,10 @@ pub enum Word {
 /// The place of the count word, which all callers share.
 pub(crate) const COUNT: usize = 0;
 
+/// The place of a segment's turn. Each turn has a cache line of its own, so that callers at different segments
+/// do not wait for one another's lines.
 pub(crate) fn turn_at(segment: u32) -> usize
     ensures { result ≡ turn_place segment }
 {
-    segment as usize + 1
+    8 * segment as usize + 8
 }
