@@ -1,4 +1,3 @@
-pub mod Lines
+pub mod Ids
 pub mod Readings
-pub mod Steps
-pub mod Texts
+pub mod Written

@@ -1,53 +1,71 @@
-use Rattle.std.specs.Prelude.{◌≡◌, ℕ, ◌+◌, ◌<◌, ◌≤◌, ◌^◌, ◌⊎◌, List, [], ◌∷◌, ◌++◌, length}
-use Rattle.std.specs.Io.{StopsAt}
-use Rattle.std.specs.Str.Parse.{IsNumeral, digits_value}
+-- Which text is that of an edge list, and where a text is refused.
+use Rattle.std.specs.Prelude.{◌≡◌, ℕ, ◌^◌, Bool, true, false, List, [], ◌∷◌, ◌++◌, Option, Some, None}
+use Rattle.shared_io.specs.declared.limits.TooKind.TheVariants.{Edges as TooManyEdges}
+use Rattle.line_text.specs.declared.faults.TextFault.{TextFault}
+use Rattle.line_text.specs.Texts.{Rules, Text, text_of, HasText, IsOpen, IsRefused as TextIsRefused}
+use Rattle.edge_text.specs.declared.drafts.Version.{Version}
+use Rattle.edge_text.specs.declared.drafts.Version.TheVariants.{Open, One, Two}
 use Rattle.edge_text.specs.declared.edges.Edge.{Edge}
+use Rattle.edge_text.specs.declared.forms.EdgeLine.{EdgeLine}
+use Rattle.edge_text.specs.declared.forms.EdgeLine.TheVariants.{Head as HeadLine, Edge as AnEdge}
+use Rattle.edge_text.specs.declared.forms.Spot.{Spot}
+use Rattle.edge_text.specs.declared.forms.Spot.TheVariants.{First, From}
+use Rattle.edge_text.specs.Drawn.{Drawn}
+use Rattle.edge_text.specs.Edges.{PlainEdges}
+use Rattle.edge_text.specs.Forms.{edge_grammar}
 
--- The decimal digits of a vertex id, one or more.
-pub record IsNumber (digits : List ℕ) (number : ℕ) : Type 0 where
-  pub digits_only : IsNumeral 10 digits
-  pub value : digits_value 10 digits ≡ number
-  pub small : number < 2 ^ 24
+abbrev pub opening : Drawn
+opening = record { edges = []; version = Open }
 
--- An edge's line without its end: a number, one space and a number.
-pub record IsLine (line : List ℕ) (edge : Edge) : Type 0 where
-  pub from : List ℕ
-  pub to : List ℕ
-  pub whole : line ≡ from ++ 32 ∷ to
-  pub from_id : IsNumber from edge.from
-  pub to_id : IsNumber to edge.to
+-- a head line may stand first alone
+abbrev pub start_of : Version → Spot
+start_of Open = First
+start_of One = From false
+start_of (Two both) = From true
 
--- The text is a line for each edge, in order, and LF after each line.
-abbrev pub Spells : List ℕ → List Edge → Type 0
-Spells text [] = text ≡ []
-Spells text (edge ∷ edges) =
-    (line rest : List ℕ) × IsLine line edge × (text ≡ line ++ 10 ∷ rest) × Spells rest edges
+abbrev pub version_after : Version → Option EdgeLine → Version
+version_after version (Some (HeadLine both)) = Two both
+version_after Open said = One
+version_after version said = version
 
--- The text is that of the edges, and within the limits.
-pub record IsEdgeText (text : List ℕ) (edges : List Edge) : Type 0 where
-  pub spelled : Spells text edges
-  pub few : length edges ≤ 2 ^ 25
-  pub short : length text ≤ 2 ^ 30
+abbrev pub edges_after : List Edge → Option EdgeLine → List Edge
+edges_after edges (Some (AnEdge edge)) = edges ++ edge ∷ []
+edges_after edges said = edges
 
--- Some text begins with what was read, or is it.
-pub record CanGoOn (read : List ℕ) : Type 0 where
-  pub rest : List ℕ
-  pub edges : List Edge
-  pub text : IsEdgeText (read ++ rest) edges
+abbrev pub is_edge : Option EdgeLine → Bool
+is_edge (Some (AnEdge edge)) = true
+is_edge said = false
 
--- What was read is no text, of any edges.
-abbrev pub IsNoText : List ℕ → Type 0
-IsNoText read = (edges : List Edge) → IsEdgeText read edges → ⊥
+abbrev pub edge_rules : Rules Drawn Spot EdgeLine
+edge_rules = record {
+  opening = opening;
+  start = λ drawn. start_of drawn.version;
+  after = λ drawn said. record { edges = edges_after drawn.edges said; version = version_after drawn.version said };
+  counts = is_edge;
+  most = 2 ^ 25;
+  kind = TooManyEdges;
+  ends = λ said. false;
+  may_be_last = λ said. true;
+}
 
--- What was read is refused at a line: the lines before it are a text, and with what came of this one no text
--- goes on, or the input has ended and all of it is no text. So it is the first bad line.
-pub record IsRefused (read : List ℕ) (ended : Type 0) (line : ℕ) : Type 0 where
-  pub lines : List ℕ
-  pub before : List Edge
-  pub bad : List ℕ
-  pub rest : List ℕ
-  pub parts : read ≡ lines ++ (bad ++ rest)
-  pub sound : IsEdgeText lines before
-  pub number : line ≡ length before + 1
-  pub within_line : StopsAt bad 10
-  pub refused : (CanGoOn (lines ++ bad) → ⊥) ⊎ (ended × (rest ≡ []) × IsNoText (lines ++ bad))
+abbrev pub edge_text : Text Drawn Spot EdgeLine
+edge_text = text_of edge_grammar edge_rules
+
+abbrev pub leads_both : Version → Bool
+leads_both (Two both) = both
+leads_both version = false
+
+abbrev pub plain_drawn : Drawn → PlainEdges
+plain_drawn drawn = record { edges = drawn.edges; both = leads_both drawn.version }
+
+-- The text is that of the list.
+abbrev pub IsEdgeText : List ℕ → PlainEdges → Type 0
+IsEdgeText text list = (drawn : Drawn) × HasText edge_text text (Unit {0}) drawn × (list ≡ plain_drawn drawn)
+
+-- Nothing in what was read is refused.
+abbrev pub CanGoOn : List ℕ → Type 0
+CanGoOn read = IsOpen edge_text read
+
+-- What was read is refused first for this, at a byte of it or, where it ended, at its end.
+abbrev pub IsRefused : List ℕ → Type 0 → TextFault → Type 0
+IsRefused read ended fault = TextIsRefused edge_text read ended fault

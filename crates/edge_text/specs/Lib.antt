@@ -1,5 +1,13 @@
 pub use Rattle.shared_io.specs.Counts
+pub use Rattle.line_text.specs.Lines
+pub use Rattle.line_text.specs.Readings
+pub use Rattle.line_text.specs.States
+pub use Rattle.line_text.specs.Texts
+pub use Rattle.line_text.specs.Words
+pub mod Drawn
 pub mod EdgeText
 pub mod Edges
+pub mod Forms
 pub mod Reading
-pub mod Standing
+pub mod Sound
+pub mod Written

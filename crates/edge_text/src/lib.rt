@@ -1,17 +1,22 @@
-//! The text of an edge list, and its reader.
+//! The text of an edge list, its reader and its writers.
 //!
-//! A text is lines of two vertex ids. The reader takes it in pieces of any size, and answers the
-//! edges in order, or the first line that can't be one, as soon as that is known.
+//! A text is lines, each blank, a comment or an edge; its first line may say that edges have weights
+//! and that they lead both ways. The grammar stands in `forms`, and `line_text` reads by it: so the
+//! reader answers the edges in order, or the first byte with which no line goes on.
 #![tactic(auto)]
 
+mod drafts;
 mod edges;
-mod faults;
-mod places;
+mod forms;
+mod laws;
 mod reader;
+mod writer;
 
 pub use edges::{Edge, EdgeList, GREATEST_ID};
-pub use faults::EdgeFault;
+pub use laws::inputs_mean_one;
+pub use line_text::TextFault as EdgeFault;
 pub use reader::read_edges;
+pub use writer::write_edge;
 
 #[cfg(test)]
 mod tests;

@@ -1,79 +1,40 @@
-ghost use Rattle.std.specs.Prelude.{◌≡◌, ℕ, ◌≤◌, ◌^◌, List, Some, IfOk, MatchResult, length, vec_len};
-ghost use Rattle.edge_text.specs.EdgeText.{IsEdgeText, IsNoText};
-ghost use Rattle.edge_text.specs.Edges.{HaveIds};
-ghost use Rattle.edge_text.specs.Reading.{Reading, IsExcuse, IsRefusal};
-ghost use Rattle.edge_text.specs.Standing.{standing, needed, CutsOff};
+ghost use Rattle.std.specs.Prelude.{◌≡◌, ℕ, List, Some, IfOk, MatchResult};
+ghost use Rattle.line_text.specs.declared.faults.TextFault.{TextFault};
+ghost use Rattle.edge_text.specs.EdgeText.{IsEdgeText, IsRefused};
+ghost use Rattle.edge_text.specs.Edges.{HaveIds, PlainEdges, plain_edges};
+ghost use Rattle.edge_text.specs.Reading.{Reading};
+ghost use Rattle.line_text.specs.Readings.{IsExcuse, IsRefusal};
 ghost use Rattle.shared_io.specs.Counts.{Rose};
 
-use crate::edges::{Edge, EdgeList};
-use crate::faults::EdgeFault;
-use crate::places::{Place, bad_line, take_piece};
+use crate::drafts::EdgeDraft;
+use crate::edges::EdgeList;
+use line_text::{TextFault as EdgeFault, read_text};
 use shared_io::Source;
-use std::alloc::{AllocError, Global};
-
-/// The most bytes of a text.
-const MOST_BYTES: usize = 1 << 30;
-
-/// How many bytes are asked for at once.
-const PIECE: usize = 1 << 16;
+use std::alloc::Global;
 
 /// Reads the text of an edge list to the end of the input, and answers its edges in their order.
 ///
-/// A text is lines, each a number, one space, a number and LF, and may be empty. A number is decimal
-/// digits, leading zeros allowed, of at most 2^24 - 1. There are at most 2^25 lines and 2^30 bytes.
-/// The first line with which no text goes on is refused as soon as a byte of it shows that, or at
-/// the end of the input. Nothing is asked for after that, but what came in the same piece is lost.
+/// A line is blank, or a comment, which begins with `#`, or an edge: two ids, parted by blanks. A blank
+/// is a space, a tab or CR. The last line may lack its LF. If the first line is `%pgas 2 directed` or
+/// `%pgas 2 both`, an edge may have a weight behind its ids, else 1, and in the latter each edge leads
+/// both ways. Numbers are decimal digits, leading zeros allowed.
+///
+/// `BadLine` stands at the first byte with which no line goes on, or at the end that comes too early.
+/// `TooLarge` stands at the digit that makes an id exceed 2^24 - 1 or a weight 2^32 - 1, at the end of
+/// edge number 2^25 + 1, and at byte number 2^30 + 1. The first in the input is answered, and nothing is
+/// asked for behind it; what came in the same piece is lost.
 pub fn read_edges<S: Source>(alloc: Global, source: &mut S) -> Result<EdgeList, EdgeFault>
     // What the answer says of the bytes that were read.
     ensures reading { Reading (S.left source.old) (S.left source.new) (S.faults source.old) (S.faults source.new) result }
-    ensures ids { IfOk result (λ list. HaveIds list.pairs.items) }
+    ensures ids { IfOk result (λ list. HaveIds list.edges.items) }
 
     // Where the source tells its bytes, the answer is that of the whole input.
-    ensures accepted { (input : List ℕ) (edges : List Edge) → S.left source.old ≡ Some input → IsEdgeText input edges
-        → MatchResult result (λ list. list.pairs.items ≡ edges) (IsExcuse (Rose (S.faults source.old) (S.faults source.new))) }
-    ensures refused { (input : List ℕ) → S.left source.old ≡ Some input → IsNoText input
-        → MatchResult result (λ _. ⊥) (IsRefusal input (Rose (S.faults source.old) (S.faults source.new))) }
+    ensures accepted { (input : List ℕ) (list : PlainEdges) → S.left source.old ≡ Some input → IsEdgeText input list
+        → MatchResult result (λ answer. plain_edges answer ≡ list) (IsExcuse (Rose (S.faults source.old) (S.faults source.new))) }
+    ensures refused { (input : List ℕ) (refusal : TextFault) → S.left source.old ≡ Some input → IsRefused input (Unit {0}) refusal
+        → MatchResult result (λ _. ⊥) (IsRefusal refusal (Rose (S.faults source.old) (S.faults source.new))) }
 {
-    read_pieces(alloc, source)
-}
-
-/// Reads piece after piece.
-fn read_pieces<S: Source>(alloc: Global, source: &mut S) -> Result<EdgeList, EdgeFault>
-    ensures { Reading (S.left source.old) (S.left source.new) (S.faults source.old) (S.faults source.new) result }
-{
-    let mut buffer = zeros(alloc, PIECE)?;
-    let mut pairs = Vec::new(alloc);
-    let mut place = Place::Start;
-    let mut total = 0;
-    loop {
-        // Behind the last byte that a text can have one more is asked for, to see that none comes.
-        let room = MOST_BYTES - total;
-        let piece = &mut buffer[..room.clamp(1, PIECE)];
-        let count = source.read(piece)?;
-        if count == 0 {
-            return at_end(pairs, place);
-        }
-        place = take_piece(&mut pairs, place, &piece[..count], room)?;
-        total += count;
-    }
-}
-
-/// So many zeros.
-fn zeros(alloc: Global, count: usize) -> Result<Vec<u8>, AllocError>
-    ensures { IfOk result (λ bytes. vec_len bytes ≡ count) }
-{
-    vec![in alloc; 0u8; count]
-}
-
-/// The answer at the end of the input.
-fn at_end(pairs: Vec<Edge>, place: Place) -> Result<EdgeList, EdgeFault>
-    requires { length pairs.items ≤ 2 ^ 25 }
-    ensures { MatchResult result
-        (λ list. (needed place ≡ 0) × (list.pairs.items ≡ pairs.items))
-        (CutsOff (standing place pairs.items)) }
-{
-    if place.needed() > 0 {
-        return Err(bad_line(&pairs));
-    }
-    Ok(EdgeList { pairs })
+    let mut draft = EdgeDraft::new(alloc);
+    read_text(alloc, source, &mut draft)?;
+    Ok(draft.finish())
 }

@@ -12,8 +12,12 @@ mod sinks;
 mod sources;
 #[cfg(test)]
 mod tests;
+mod text_sink;
+mod text_source;
 
 pub use gates::{Gate, OpenGate, Point};
 pub use limits::TooKind;
 pub use sinks::{Sink, SinkFault, SureSink, WriteSink, write_whole};
 pub use sources::{Failed, ReadSource, Source, SureSource};
+pub use text_sink::TextSink;
+pub use text_source::TextSource;

@@ -7,6 +7,10 @@ pub enum TooKind {
     Edges,
     /// There are more bytes than 2^30.
     Bytes,
+    /// An edge's weight is greater than 2^32 - 1.
+    Weight,
     /// There are more calls and `round` lines than 2^20.
     Calls,
+    /// There are more step lines than 2^20.
+    Steps,
 }

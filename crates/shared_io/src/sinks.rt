@@ -1,7 +1,7 @@
-ghost use Rattle.std.specs.Prelude.{◌≡◌, ℕ, ◌≤◌, ◌<◌, List, [], Option, Some, OnOk, OnErr, length, take};
+ghost use Rattle.std.specs.Prelude.{◌≡◌, ℕ, ◌≤◌, ◌<◌, List, [], Option, Some, OnOk, IfOk, OnErr, MatchResult, ◌⊎◌, length, take};
 ghost use Rattle.std.specs.Io.{WritesAtMost};
 ghost use Rattle.std.specs.Io.KnownBytes.{Appends, WriteAppends};
-ghost use Rattle.shared_io.specs.Counts.{Rose};
+ghost use Rattle.shared_io.specs.Counts.{Rose, counted};
 
 use std::alloc::Global;
 use std::io::{ErrorKind, Write};
@@ -29,24 +29,28 @@ pub trait Sink {
     ghost refusals: { Self → ℕ };
 
     /// Takes bytes from the front of the piece, and answers how many. To take none of a piece that
-    /// isn't empty is a failure of the sink, and counted as one.
+    /// isn't empty is a failure of the sink, and counted as one. A write that takes bytes counts
+    /// neither a failure nor want of memory.
     fn write(&mut self, piece: &[u8]) -> Result<usize, SinkFault>
         ensures bound { WritesAtMost result piece.now }
         ensures bytes { WriteAppends (taken self.old) (taken self.new) result piece.now }
         ensures faults { faults self.old ≤ faults self.new }
         ensures refusals { refusals self.old ≤ refusals self.new }
+        ensures kept { IfOk result (λ count. 0 < count → faults self.new ≡ faults self.old) }
+        ensures unrefused { OnOk result (refusals self.new ≡ refusals self.old) }
         ensures failed { result ≡ Err SinkFault.Failed → Rose (faults self.old) (faults self.new) }
         ensures memory { result ≡ Err SinkFault.Memory → Rose (refusals self.old) (refusals self.new) }
         ensures nothing { result ≡ Ok 0 → 0 < length piece.now → Rose (faults self.old) (faults self.new) };
 }
 
 /// Writes all the bytes, piece after piece. After an error the sink has taken some bytes from the
-/// front and no others.
+/// front and no others, and no error is passed over.
 pub fn write_whole<K: Sink>(sink: &mut K, bytes: &[u8]) -> Result<(), SinkFault>
     ensures whole { OnOk result (Appends (K.taken sink.old) (K.taken sink.new) bytes.now) }
     ensures front { (count : ℕ) × (count ≤ length bytes.now) × Appends (K.taken sink.old) (K.taken sink.new) (take count bytes.now) }
     ensures faults { K.faults sink.old ≤ K.faults sink.new }
     ensures refusals { K.refusals sink.old ≤ K.refusals sink.new }
+    ensures kept { OnOk result ((K.faults sink.new ≡ K.faults sink.old) × (K.refusals sink.new ≡ K.refusals sink.old)) }
     ensures failed { result ≡ Err SinkFault.Failed → Rose (K.faults sink.old) (K.faults sink.new) }
     ensures memory { result ≡ Err SinkFault.Memory → Rose (K.refusals sink.old) (K.refusals sink.new) }
 {
@@ -90,7 +94,17 @@ impl<W: Write> Sink for WriteSink<W> {
 
     ghost refusals = { λ s. s.refusals };
 
-    fn write(&mut self, piece: &[u8]) -> Result<usize, SinkFault> {
+    fn write(&mut self, piece: &[u8]) -> Result<usize, SinkFault>
+        ensures bound { WritesAtMost result piece.now }
+        ensures bytes { WriteAppends (W.contents self.old.writer) (W.contents self.new.writer) result piece.now }
+        ensures faults { self.old.faults ≤ self.new.faults }
+        ensures refusals { self.old.refusals ≤ self.new.refusals }
+        ensures taken { IfOk result (λ count. (0 < count ⊎ (length piece.now ≡ 0)) → self.new.faults ≡ self.old.faults) }
+        ensures unrefused { OnOk result (self.new.refusals ≡ self.old.refusals) }
+        ensures failed { result ≡ Err SinkFault.Failed → Rose self.old.faults self.new.faults × (self.new.refusals ≡ self.old.refusals) }
+        ensures memory { result ≡ Err SinkFault.Memory → Rose self.old.refusals self.new.refusals × (self.new.faults ≡ self.old.faults) }
+        ensures nothing { result ≡ Ok 0 → 0 < length piece.now → Rose self.old.faults self.new.faults }
+    {
         match self.writer.write(piece) {
             Ok(count) => {
                 if count == 0 && !piece.is_empty() {
@@ -153,7 +167,13 @@ impl Sink for SureSink {
 
     ghost refusals = { λ s. s.refusals };
 
-    fn write(&mut self, piece: &[u8]) -> Result<usize, SinkFault> {
+    fn write(&mut self, piece: &[u8]) -> Result<usize, SinkFault>
+        ensures bytes { WriteAppends (Some self.old.bytes) (Some self.new.bytes) result piece.now }
+        ensures answer { MatchResult result (λ count. count ≡ length piece.now) (λ fault. fault ≡ SinkFault.Memory) }
+        ensures refusals { self.old.refusals ≤ self.new.refusals }
+        ensures unrefused { OnOk result (self.new.refusals ≡ self.old.refusals) }
+        ensures refused { OnErr result (self.new.refusals ≡ counted self.old.refusals) }
+    {
         match self.bytes.extend_from_slice(piece) {
             Ok(()) => Ok(piece.len()),
             Err(_) => {

@@ -1,4 +1,4 @@
-ghost use Rattle.std.specs.Prelude.{◌≡◌, ℕ, ◌≤◌, ◌<◌, List, Option, Some, OnErr, IsOk};
+ghost use Rattle.std.specs.Prelude.{◌≡◌, ℕ, ◌≤◌, ◌<◌, List, Option, Some, OnErr, OnOk, length, min};
 ghost use Rattle.std.specs.Io.{ReadsAtMost};
 ghost use Rattle.std.specs.Io.KnownBytes.{ReadConsumes};
 ghost use Rattle.shared_io.specs.Counts.{Rose};
@@ -21,11 +21,14 @@ pub trait Source {
     ghost faults: { Self → ℕ };
 
     /// Reads some of the bytes to come into the front of `into`, and answers how many. Unless `into`
-    /// is empty, 0 is the end of the input. After a failure the bytes of `into` are unspecified.
+    /// is empty, 0 is the end of the input. After a failure the bytes of `into` are unspecified. A read
+    /// that gives bytes, or the end, counts no failure: so a caller that finds the count as it was has
+    /// passed over none.
     fn read(&mut self, into: &mut [u8]) -> Result<usize, Failed>
         ensures bound { ReadsAtMost result into.new }
         ensures bytes { ReadConsumes (left self.old) (left self.new) result into.new }
         ensures count { faults self.old ≤ faults self.new }
+        ensures kept { OnOk result (faults self.new ≡ faults self.old) }
         ensures failed { OnErr result (Rose (faults self.old) (faults self.new)) };
 }
 
@@ -94,7 +97,7 @@ impl Source for SureSource {
     fn read(&mut self, into: &mut [u8]) -> Result<usize, Failed>
         ensures bound { ReadsAtMost result into.new }
         ensures bytes { ReadConsumes (Some self.old) (Some self.new) result into.new }
-        ensures sure { IsOk result }
+        ensures given { result ≡ Ok (min (length into.new) (length self.old)) }
     {
         let count = into.len().min(self.bytes.len() - self.at);
         into[..count].copy_from_slice(&self.bytes[self.at..self.at + count]);

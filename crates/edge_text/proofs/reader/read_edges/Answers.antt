@@ -1,23 +1,24 @@
-use Rattle.std.proofs.Common.{List, ℕ, Option, subst}
-use Rattle.edge_text.specs.Reading.{Reading}
-use Rattle.edge_text.proofs.Readings.{ids_reading, accepted_reading, refused_reading}
+use Rattle.std.proofs.Common.{sym, ap, ◌∙◌}
+use Rattle.std.proofs.lemmas.Result.{err_from_is_err_and}
+use Rattle.edge_text.specs.EdgeText.{plain_drawn}
+use Rattle.edge_text.proofs.Readings.{list_reading, fault_reading}
 use Rattle.edge_text.proofs.reader.read_edges.Goals as goal
 
-pub returns-clause-ids : goal.returns-clause-ids
-returns-clause-ids g c = ids_reading _ _ _ _ c.read_pieces.result c.read_pieces.ensures
+pub returns-clause-reading : goal.returns-clause-reading
+returns-clause-reading g c = list_reading _ _ _ _ c.read_text.new.draft c.finish.result c.finish.ensures.list c.in_ok-read_text.ensures.reading
 
 pub returns-clause-accepted : goal.returns-clause-accepted
-returns-clause-accepted g c = λ input edges told is.
-    let before = g.S.Source.faults c.args.source.now in
-    let after = g.S.Source.faults c.read_pieces.new.source in
-    let left_after = g.S.Source.left c.read_pieces.new.source in
-    accepted_reading input before after edges left_after c.read_pieces.result is
-    (subst (λ (left : Option (List ℕ)). Reading left left_after before after c.read_pieces.result) told c.read_pieces.ensures)
+returns-clause-accepted g c = λ input list told is. c.finish.ensures.list ∙ (ap plain_drawn (c.in_ok-read_text.ensures.accepted input is.0 told is.1) ∙ sym is.2)
 
 pub returns-clause-refused : goal.returns-clause-refused
-returns-clause-refused g c = λ input told no_text.
-    let before = g.S.Source.faults c.args.source.now in
-    let after = g.S.Source.faults c.read_pieces.new.source in
-    let left_after = g.S.Source.left c.read_pieces.new.source in
-    refused_reading input before after left_after c.read_pieces.result no_text
-    (subst (λ (left : Option (List ℕ)). Reading left left_after before after c.read_pieces.result) told c.read_pieces.ensures)
+returns-clause-refused g c = λ input refusal told refused. c.in_ok-read_text.ensures.refused input refusal told refused
+
+pub returns-in_err-read_text : goal.returns-in_err-read_text
+returns-in_err-read_text g c =
+    let p = err_from_is_err_and c.from_residual.result c.from_residual.ensures.1 in
+    rw (p.1, p.2) (record {
+      reading = fault_reading _ _ _ _ c.read_text.new.draft c.in_err-read_text.field-0.0 c.in_err-read_text.ensures.reading;
+      ids = tt;
+      accepted = λ input list told is. c.in_err-read_text.ensures.accepted input is.0 told is.1;
+      refused = λ input refusal told refused. c.in_err-read_text.ensures.refused input refusal told refused;
+    })

@@ -1,4 +1,4 @@
-use Rattle.std.proofs.Common.{◌≡◌, ℕ, ◌≤◌, length, take, drop, ◌-◌}
+use Rattle.std.proofs.Common.{◌≡◌, ◌≤◌, length, take, ◌-◌}
 use Rattle.std.specs.Io.KnownBytes.{Appends}
 use Rattle.shared_io.proofs.sinks.write_whole.Given as goal
 
@@ -7,8 +7,8 @@ abbrev pub invariant-loop-done : goal.invariant-loop-done
 invariant-loop-done g l = record {
   within : l.done ≤ length l.bytes;
   taken : Appends (g.K.Sink.taken l.fn.sink) (g.K.Sink.taken l.sink) (take l.done l.bytes);
-  faults : g.K.Sink.faults l.fn.sink ≤ g.K.Sink.faults l.sink;
-  refusals : g.K.Sink.refusals l.fn.sink ≤ g.K.Sink.refusals l.sink;
+  faults : g.K.Sink.faults l.sink ≡ g.K.Sink.faults l.fn.sink;
+  refusals : g.K.Sink.refusals l.sink ≡ g.K.Sink.refusals l.fn.sink;
 }
 
 abbrev pub decreases-loop-done : goal.decreases-loop-done

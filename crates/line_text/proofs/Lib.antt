@@ -1,0 +1,10 @@
+pub mod Letters
+pub mod Steps
+pub mod Runs
+pub mod Live
+pub mod Standings
+pub mod Pieces
+pub mod Inputs
+pub mod Sources
+pub mod Said
+pub mod Written

@@ -1,0 +1,9 @@
+pub use Rattle.shared_io.specs.Counts
+pub mod Fronts
+pub mod Letters
+pub mod Lines
+pub mod Readings
+pub mod Scans
+pub mod States
+pub mod Texts
+pub mod Words
