@@ -1,5 +1,5 @@
+pub mod Drawn
 pub mod Frontiers
 pub mod Marking
 pub mod Starts
-pub mod Vertices
 pub mod Walks

@@ -6,10 +6,9 @@ use Rattle.std.proofs.Math.Seq.{take-length}
 use Rattle.std.proofs.lemmas.List.{drop_all, drop_at, length-take-le, get_or-drop, get_or-take, length-drop, take-append-drop, get_or-replicate, length-replicate, get_or-set_same, get_or-set_other, get_or_push, get_or_append_left, get_or_default, length_push, get_or_past}
 use Rattle.std.proofs.lemmas.List.Elements.{All-more, All-push, All-weaker, Contains-push, Contains-append_left}
 use Rattle.std.proofs.lemmas.List.Sums.{sum_by-set}
-use Rattle.edge_text.specs.declared.edges.Edge.{Edge}
 use Rattle.std.proofs.lemmas.List.Sorted.{All-permutation, Contains-permutation, IsPermutation-append_right, length_permutation}
 use Rattle.std.specs.List.Sorted.{IsPermutation}
-use Rattle.levels_engine.specs.Marks.{HasTarget, IsMarked, IsMarking, Marking, MarksMore, Reorders, level_of, marked}
+use Rattle.levels_engine.specs.Marks.{IsMarked, IsMarking, Marking, MarksMore, Reorders, level_of, marked}
 use Rattle.levels_engine.specs.declared.plain_levels.TheConstants.{NOT_REACHED}
 
 -- at first no vertex has a level
@@ -143,18 +142,17 @@ module _ (marking : Marking) (vertex level : ℕ) (within : vertex < length mark
     | inr some ↦ subst (λ (m : Marking). IsMarked m.levels vertex) (sym (cond-false _ _ _ some)) (eqb-false _ _ some)
   ]
 
--- the targets of a row, so far as they are marked, and one more
-pub marks_row_more : (row : List Edge) (place level : ℕ) (edge : Edge) (old mid new : Marking) → level ≢ NOT_REACHED → place < length row → All (λ (edge : Edge). edge.to < length old.levels) row → MarksMore level (HasTarget row) old mid → All (λ (edge : Edge). IsMarked mid.levels edge.to) (take place row) → new ≡ marked mid (get_or row place edge).to level → MarksMore level (HasTarget row) old new × All (λ (edge : Edge). IsMarked new.levels edge.to) (take (place + 1) row)
-marks_row_more row place level edge old mid new high within targets more all is =
-    let target = (get_or row place edge).to in
-    let inside : target < length mid.levels = omega (arith, targets place edge within, more.count) in
-    let near : HasTarget row target = (place, get_or row place edge, within, get_or_default row place (get_or row place edge) edge within, refl) in
-    let step : MarksMore level (HasTarget row) mid new = subst (MarksMore level (HasTarget row) mid) (sym is) (MarksMore-marked mid target level inside high (HasTarget row) near) in
-    let AreMarked : Marking → Edge → Type 0 = λ m edge. IsMarked m.levels edge.to in
-    let last : AreMarked new (get_or row place edge) = subst (λ (m : Marking). IsMarked m.levels target) (sym is) (IsMarked-marked mid target level inside high) in (
-      MarksMore-trans level (HasTarget row) old mid new high more step,
-      All-more (AreMarked new) row place edge within
-          (All-weaker (AreMarked mid) (AreMarked new) (λ edge. IsMarked-more level (HasTarget row) mid new step edge.to) (take place row) all) last,
+-- vertices that are named in a list, so far as they are marked, and one more
+pub marks_more : {X : Type 0} (vertex_of : X → ℕ) (IsNear : ℕ → Type 0) (xs : List X) (place level : ℕ) (x : X) (old mid new : Marking) → level ≢ NOT_REACHED → place < length xs → All (λ x. vertex_of x < length old.levels) xs → IsNear (vertex_of (get_or xs place x)) → MarksMore level IsNear old mid → All (λ x. IsMarked mid.levels (vertex_of x)) (take place xs) → new ≡ marked mid (vertex_of (get_or xs place x)) level → MarksMore level IsNear old new × All (λ x. IsMarked new.levels (vertex_of x)) (take (place + 1) xs)
+marks_more {X} vertex_of IsNear xs place level x old mid new high within inside near more all is =
+    let target = vertex_of (get_or xs place x) in
+    let below : target < length mid.levels = omega (arith, inside place x within, more.count) in
+    let step : MarksMore level IsNear mid new = subst (MarksMore level IsNear mid) (sym is) (MarksMore-marked mid target level below high IsNear near) in
+    let AreMarked : Marking → X → Type 0 = λ m x. IsMarked m.levels (vertex_of x) in
+    let last : AreMarked new (get_or xs place x) = subst (λ (m : Marking). IsMarked m.levels target) (sym is) (IsMarked-marked mid target level below high) in (
+      MarksMore-trans level IsNear old mid new high more step,
+      All-more (AreMarked new) xs place x within
+          (All-weaker (AreMarked mid) (AreMarked new) (λ x. IsMarked-more level IsNear mid new step (vertex_of x)) (take place xs) all) last,
     )
 
 -- what stands from a place on after it was sorted there

@@ -1,7 +1,6 @@
 use Rattle.std.specs.Prelude.{◌≡◌, ◌≢◌, ℕ, ◌+◌, ◌<◌, ◌≤◌, ◌==◌, ◌⊎◌, List, [], ◌∷◌, ◌++◌, All, Any, Contains, if◌then◌else◌, count_by, drop, length, slice_index, slice_index_or, slice_set, take}
 use Rattle.std.specs.List.Sorted.{IsPermutation}
-use Rattle.edge_text.specs.declared.edges.Edge.{Edge}
-use Rattle.edge_text.specs.Edges.{HasEdge}
+use Rattle.graph_store.specs.declared.pairs.Pair.{Pair}
 use Rattle.levels_engine.specs.declared.plain_levels.TheConstants.{NOT_REACHED}
 
 -- the levels of vertices, and the vertices that have one, in the order in which they got it
@@ -36,14 +35,14 @@ pub record Reorders (begin : ℕ) (old new : Marking) : Type 0 where
   pub front : take begin new.queue ≡ take begin old.queue
   pub rest : IsPermutation (drop begin old.queue) (drop begin new.queue)
 
--- one of the edges leads to the vertex
-abbrev pub HasTarget : List Edge → ℕ → Type 0
-HasTarget edges vertex = Any (λ edge. edge.to ≡ vertex) edges
+-- one of the pairs leads to the vertex
+abbrev pub HasTarget : List Pair → ℕ → Type 0
+HasTarget pairs vertex = Any (λ pair. pair.to ≡ vertex) pairs
 
 -- an edge leads to the vertex from this part of the queue
-abbrev pub IsNextTo : List Edge → List ℕ → ℕ → ℕ → ℕ → Type 0
-IsNextTo edges queue begin end vertex =
-    (place : ℕ) × (begin ≤ place) × (place < end) × HasEdge edges (slice_index queue place) vertex
+abbrev pub IsNextTo : (ℕ → ℕ → Type 0) → List ℕ → ℕ → ℕ → ℕ → Type 0
+IsNextTo Leads queue begin end vertex =
+    (place : ℕ) × (begin ≤ place) × (place < end) × Leads (slice_index queue place) vertex
 
 -- Levels stay. Each vertex that got one is near and has this level, and they alone follow in the queue.
 pub record MarksMore (level : ℕ) (IsNear : ℕ → Type 0) (old new : Marking) : Type 0 where

@@ -3,7 +3,7 @@ ghost use Rattle.std.specs.List.Sorted.{IsPermutation};
 ghost use Rattle.levels_engine.specs.Marks.{HasTarget, IsMarked, MarksMore, Reorders, marked};
 
 use crate::plain_levels::NOT_REACHED;
-use edge_text::Edge;
+use graph_store::Pair;
 use std::alloc::{AllocError, Global};
 use std::marker::Model;
 
@@ -85,14 +85,27 @@ impl Marks {
     }
 
     /// Gives the level to each target that has none.
-    pub fn mark_row(&mut self, row: &[Edge], level: u32) -> Result<(), AllocError>
-        requires targets { All (λ edge. edge.to < length self.old.levels) row.now }
+    pub fn mark_row(&mut self, row: &[Pair], level: u32) -> Result<(), AllocError>
+        requires targets { All (λ pair. pair.to < length self.old.levels) row.now }
         requires level { level ≢ NOT_REACHED }
         ensures more { OnOk result (MarksMore level (HasTarget row.now) self.old self.new) }
-        ensures all { OnOk result (All (λ edge. IsMarked self.new.levels edge.to) row.now) }
+        ensures all { OnOk result (All (λ pair. IsMarked self.new.levels pair.to) row.now) }
     {
-        for edge in row {
-            self.mark(edge.to, level)?;
+        for pair in row {
+            self.mark(pair.to, level)?;
+        }
+        Ok(())
+    }
+
+    /// Gives the level to each of the vertices that has none.
+    pub fn mark_all(&mut self, vertices: &[u32], level: u32) -> Result<(), AllocError>
+        requires vertices { All (λ vertex. vertex < length self.old.levels) vertices.now }
+        requires level { level ≢ NOT_REACHED }
+        ensures more { OnOk result (MarksMore level (Contains vertices.now) self.old self.new) }
+        ensures all { OnOk result (All (IsMarked self.new.levels) vertices.now) }
+    {
+        for &vertex in vertices {
+            self.mark(vertex, level)?;
         }
         Ok(())
     }

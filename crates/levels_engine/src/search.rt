@@ -1,4 +1,5 @@
-ghost use Rattle.std.specs.Prelude.{◌≡◌, ◌≢◌, ℕ, ◌<◌, ◌≤◌, IfOk, OnOk, length, vec_len};
+ghost use Rattle.std.specs.Prelude.{◌≡◌, ◌≢◌, ℕ, ◌<◌, ◌≤◌, All, IfOk, OnOk, length, vec_len};
+ghost use Rattle.graph_store.specs.Pairs.{HasPair};
 ghost use Rattle.levels_engine.specs.Levels.{IsLevelNumber};
 ghost use Rattle.levels_engine.specs.Marks.{IsMarked, IsNextTo, MarksMore, level_of};
 
@@ -19,8 +20,8 @@ fn expand(
     requires vertices { length marks.old.levels ≡ rows.now.vertices }
     requires frontier { end ≤ length marks.old.queue }
     requires level { level ≢ NOT_REACHED }
-    ensures more { OnOk result (MarksMore level (IsNextTo rows.now.edges marks.old.queue begin end) marks.old marks.new) }
-    ensures all { OnOk result ((vertex : ℕ) → IsNextTo rows.now.edges marks.old.queue begin end vertex → IsMarked marks.new.levels vertex) }
+    ensures more { OnOk result (MarksMore level (IsNextTo (HasPair rows.now.pairs) marks.old.queue begin end) marks.old marks.new) }
+    ensures all { OnOk result ((vertex : ℕ) → IsNextTo (HasPair rows.now.pairs) marks.old.queue begin end vertex → IsMarked marks.new.levels vertex) }
 {
     for place in begin..end {
         let vertex = marks.vertex_at(place);
@@ -30,15 +31,15 @@ fn expand(
 }
 
 /// The level of each vertex, by a breadth-first search: one frontier after another, each the
-/// vertices of one level.
-pub fn search(alloc: Global, rows: &Rows, source: u32) -> Result<Vec<u32>, AllocError>
+/// vertices of one level, and the first the sources.
+pub fn search(alloc: Global, rows: &Rows, sources: &[u32]) -> Result<Vec<u32>, AllocError>
     requires vertices { rows.now.vertices < NOT_REACHED }
-    requires source { source < rows.now.vertices }
+    requires sources { All (λ source. source < rows.now.vertices) sources.now }
     ensures vertices { IfOk result (λ levels. vec_len levels ≡ rows.now.vertices) }
-    ensures levels { IfOk result (λ levels. (vertex : ℕ) → IsLevelNumber rows.now.edges source vertex (level_of levels.items vertex)) }
+    ensures levels { IfOk result (λ levels. (vertex : ℕ) → IsLevelNumber (HasPair rows.now.pairs) sources.now vertex (level_of levels.items vertex)) }
 {
     let mut marks = Marks::new(alloc, rows.vertices())?;
-    marks.mark(source, 0)?;
+    marks.mark_all(sources, 0)?;
     let mut begin = 0;
     let mut level = 0;
     while begin < marks.count() {

@@ -4,9 +4,9 @@ use Rattle.levels_engine.proofs.rows.row_end.Given as goal
 
 abbrev pub invariant-loop-end : goal.invariant-loop-end
 invariant-loop-end l = record {
-  within : l.end ≤ length l.edges;
-  passed : AllWithin (λ edge. edge.from < l.vertex + 1) l.edges 0 l.end;
+  within : l.end ≤ length l.pairs;
+  passed : AllWithin (λ pair. pair.from < l.vertex + 1) l.pairs 0 l.end;
 }
 
 abbrev pub decreases-loop-end : goal.decreases-loop-end
-decreases-loop-end l = length l.edges - l.end
+decreases-loop-end l = length l.pairs - l.end

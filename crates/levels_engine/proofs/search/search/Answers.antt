@@ -1,5 +1,6 @@
-use Rattle.std.proofs.Common.{ℕ, ◌≡◌, ◌≢◌, ◌+◌, ◌<◌, ◌≤◌, ◌∙◌, List, length, replicate, ap, arith, subst, sym}
-use Rattle.std.proofs.lemmas.Grind.{common_steps}
+use Rattle.std.proofs.Common.{All, ℕ, ◌≡◌, ◌≢◌, ◌+◌, ◌<◌, ◌≤◌, ◌∙◌, List, length, replicate, ap, arith, subst, sym}
+use Rattle.std.proofs.lemmas.List.{length-replicate}
+use Rattle.graph_store.specs.Pairs.{HasPair}
 use Rattle.levels_engine.specs.Levels.{IsLevelNumber}
 use Rattle.levels_engine.specs.Marks.{level_of}
 use Rattle.levels_engine.specs.declared.plain_levels.TheConstants.{NOT_REACHED}
@@ -13,9 +14,9 @@ loop-begin-init c =
     let vertices = c.args.rows.now.vertices in
     let empty = c.in_ok-marks.marks in
     let levels : empty.levels ≡ replicate vertices NOT_REACHED = rw c.vertices.ensures at c.in_ok-marks.ensures.levels in
-    let same_length : length c.mark.new.self.levels ≡ vertices = grind (arith, common_steps) in (
-      same_length,
-      IsSearched-start c.args.rows.now.edges c.args.source vertices c.requires.source empty c.mark.new.self levels c.in_ok-marks.ensures.queue c.in_ok-mark.ensures.ok,
+    let more = c.in_ok-mark_all.ensures.more in (
+      more.count ∙ (ap length levels ∙ length-replicate vertices NOT_REACHED),
+      IsSearched-start (HasPair c.args.rows.now.pairs) c.args.sources.now vertices empty c.mark_all.new.self levels c.in_ok-marks.ensures.queue more c.in_ok-mark_all.ensures.all,
     )
 
 pub expand-requires-clause-frontier : goal.expand-requires-clause-frontier
@@ -24,22 +25,29 @@ expand-requires-clause-frontier c =
 
 pub loop-begin-preserved : goal.loop-begin-preserved
 loop-begin-preserved c =
-    let edges = c.args.rows.now.edges in
+    let Leads : ℕ → ℕ → Type 0 = HasPair c.args.rows.now.pairs in
     let again = c.sort_from.ensures in
-    let was = IsSearched-reordered edges c.args.source c.loop-begin.level c.loop-begin.begin c.loop-begin.marks c.sort_from.new.self again c.loop-begin.invariant.1 in
+    let was = IsSearched-reordered Leads c.args.sources.now c.loop-begin.level c.loop-begin.begin c.loop-begin.marks c.sort_from.new.self again c.loop-begin.invariant.1 in
     let same_length = length_permutation c.loop-begin.marks.queue c.sort_from.new.self.queue (IsPermutation-reordered c.loop-begin.begin c.loop-begin.marks c.sort_from.new.self again) in
     let left : c.loop-begin.begin < c.count-end.result = omega arith in
     let high : c.loop-begin.level + 1 ≢ NOT_REACHED = λ e. absurd (omega (arith, was.depth)) in (
       c.in_ok-expand.ensures.more.count ∙ (ap length again.levels ∙ c.loop-begin.invariant.0),
-      IsSearched-next edges c.args.source c.loop-begin.level c.loop-begin.begin c.count-end.result c.sort_from.new.self c.expand.new.marks
+      IsSearched-next Leads c.args.sources.now c.loop-begin.level c.loop-begin.begin c.count-end.result c.sort_from.new.self c.expand.new.marks
           high left (c.count-end.ensures.count ∙ sym same_length) was c.in_ok-expand.ensures.more c.in_ok-expand.ensures.all,
     )
 
 pub returns-clause-levels : goal.returns-clause-levels
 returns-clause-levels c =
-    let edges = c.args.rows.now.edges in
-    let source = c.args.source in
+    let Leads : ℕ → ℕ → Type 0 = HasPair c.args.rows.now.pairs in
+    let sources = c.args.sources.now in
     let empty : length c.loop-begin.marks.queue ≤ c.loop-begin.begin = omega arith in
-    let AreRight : List ℕ → Type 0 = λ levels. (vertex : ℕ) → IsLevelNumber edges source vertex (level_of levels vertex) in
+    let AreRight : List ℕ → Type 0 = λ levels. (vertex : ℕ) → IsLevelNumber Leads sources vertex (level_of levels vertex) in
     subst AreRight (sym c.into_levels.ensures.levels)
-    (IsSearched-done edges source c.loop-begin.level c.loop-begin.begin c.loop-begin.marks empty c.loop-begin.invariant.1 c.into_levels.ensures.queued)
+    (IsSearched-done Leads sources c.loop-begin.level c.loop-begin.begin c.loop-begin.marks empty c.loop-begin.invariant.1 c.into_levels.ensures.queued)
+
+pub mark_all-requires-clause-vertices : goal.mark_all-requires-clause-vertices
+mark_all-requires-clause-vertices c =
+    let vertices = c.args.rows.now.vertices in
+    let levels : c.in_ok-marks.marks.levels ≡ replicate vertices NOT_REACHED = rw c.vertices.ensures at c.in_ok-marks.ensures.levels in
+    let count : vertices ≡ length c.in_ok-marks.marks.levels = sym (ap length levels ∙ length-replicate vertices NOT_REACHED) in
+    subst (λ (n : ℕ). All (λ (source : ℕ). source < n) c.args.sources.now) count c.requires.sources

@@ -1,4 +1,4 @@
-use Rattle.std.proofs.Common.{◌≡◌, List, ℕ, length, drop, take, refl, sym, subst, arith}
+use Rattle.std.proofs.Common.{length, drop, refl, sym, subst, arith}
 use Rattle.std.proofs.lemmas.List.{take_at}
 use Rattle.levels_engine.specs.Marks.{IsMarking, Reorders, Marking}
 use Rattle.levels_engine.proofs.Marking.{IsMarking-reordered}
