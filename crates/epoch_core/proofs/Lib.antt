@@ -1,0 +1,16 @@
+pub mod Tables
+pub mod Stores
+pub mod SeatStores
+pub mod MarkMoves
+pub mod Decided
+pub mod Empties
+pub mod Scans
+pub mod Frees
+pub mod Counts
+pub mod HeldWords
+pub mod WayLemmas
+pub mod HandStores
+pub mod WayLoops
+pub mod NeedLists
+pub mod Runs
+pub mod Opened

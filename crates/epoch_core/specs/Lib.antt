@@ -1,0 +1,14 @@
+pub mod Tables
+pub mod Objects
+pub mod Looks
+pub mod Phases
+pub mod Leaves
+pub mod Seated
+pub mod Marks
+pub mod Shown
+pub mod Answers
+pub mod Fresh
+pub mod Ends
+pub mod ChainNeeds
+pub mod Runs
+pub mod Opened
