@@ -1,12 +1,12 @@
 -- Calls of one caller, one after another.
-use Rattle.std.proofs.Common.{◌≡◌, ℕ, ◌+◌, ◌<◌, List, [], ◌∷◌, ◌++◌, length, map, take, slice_index_or, All, refl, ap, sym, ◌∙◌, subst, append_assoc}
+use Rattle.std.proofs.Common.{◌≡◌, inr, ℕ, suc, ◌+◌, ◌<◌, List, [], ◌∷◌, ◌++◌, length, map, take, drop, drop-cons, slice_index_or, All, refl, ap, sym, ◌∙◌, subst, append_assoc}
 use Rattle.std.proofs.lemmas.Grind.{flat_map-append}
-use Rattle.std.proofs.lemmas.List.{append-nil, get_or-map, length-map, map-append, take_more}
+use Rattle.std.proofs.lemmas.List.{append-nil, get_or-map, length-map, map-append, take-append-drop, take_more}
 use Rattle.script_text.specs.declared.scripts.Call.{Call}
 use Rattle.script_text.specs.declared.scripts.Round.{Round}
 use Rattle.script_text.specs.declared.replies.Reply.{Reply}
 use Rattle.script_text.specs.Scripts.{plain_round}
-use Rattle.script_engine.specs.Replied.{Replied, HasReplied, AreAsked, first_calls}
+use Rattle.script_engine.specs.Replied.{Replied, StopsEarly, HasReplied, AreAsked, first_calls}
 
 -- what is asked in one of the rounds
 pub asked-at : (asks : Call → Type 0) (rounds : List Round) (k : ℕ) (d : Round) (calls : List Call) → AreAsked asks (map plain_round rounds) → k < length rounds
@@ -17,6 +17,13 @@ asked-at asks rounds k d calls asked within is =
     let P : List (List Call) → Type 0 = λ round. All asks (slice_index_or round 0 []) in
     subst (All asks) (sym is) (subst P same here)
 
+-- the next call of a list was refused
+pub stops_at : {State : Type 0} (does : State → Call → Reply → State → Type 0) (refuses : State → Call → State → Type 0) (from mid to : State) (calls : List Call) (k : ℕ) (d : Call) (told : List Reply) → k < length calls
+    → Replied does from (take k calls) told mid → refuses mid (slice_index_or calls k d) to → StopsEarly does refuses from calls to
+stops_at does refuses from mid to calls k d told within first refused =
+    let whole : calls ≡ take k calls ++ slice_index_or calls k d ∷ drop (suc k) calls = sym (take-append-drop k calls) ∙ ap (λ (l : List Call). take k calls ++ l) (drop-cons calls k d within) in
+    inr (take k calls, drop (suc k) calls, slice_index_or calls k d, told, mid, whole, first, refused)
+
 module _ {State : Type 0} (does : State → Call → Reply → State → Type 0) where
   -- more calls
   pub replied-append : (from mid to : State) (calls more : List Call) (told others : List Reply) → Replied does from calls told mid → Replied does mid more others to → Replied does from (calls ++ more) (told ++ others) to
@@ -24,6 +31,14 @@ module _ {State : Type 0} (does : State → Call → Reply → State → Type 0)
   replied-append from mid to (call ∷ calls) more (reply ∷ told) others at goes = (at.0, at.1, replied-append at.0 mid to calls more told others at.2 goes)
   replied-append from mid to [] more (reply ∷ told) others at goes = absurd at
   replied-append from mid to (call ∷ calls) more [] others at goes = absurd at
+
+  -- the next call of a list
+  pub replied_next : (from mid to : State) (calls : List Call) (k : ℕ) (d : Call) (told : List Reply) (reply : Reply) → k < length calls → Replied does from (take k calls) told mid → does mid (slice_index_or calls k d) reply to
+      → Replied does from (take (k + 1) calls) (told ++ reply ∷ []) to
+  replied_next from mid to calls k d told reply within first then =
+      let one : Replied does mid (slice_index_or calls k d ∷ []) (reply ∷ []) to = (to, then, refl) in
+      let more = replied-append from mid to (take k calls) (slice_index_or calls k d ∷ []) told (reply ∷ []) first one in
+      subst (λ (l : List Call). Replied does from l (told ++ reply ∷ []) to) (sym (take_more calls k d within)) more
 
   -- no calls
   pub has-nothing : (from : State) (old : List Reply) → HasReplied does from [] from old old

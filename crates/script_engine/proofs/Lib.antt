@@ -1,5 +1,12 @@
 pub mod Chains
+pub mod Crews
+pub mod Entered
+pub mod ManyCallers
+pub mod Telling
+pub mod ValidScripts
+pub mod WholeScripts
 pub mod OneAnswer
 pub mod Ordered
 pub mod PlainAnswers
+pub mod RoundAfterRound
 pub mod SingleCaller

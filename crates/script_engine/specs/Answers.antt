@@ -1,9 +1,9 @@
--- The answers of a script: one legal history of its object that has the calls with their replies, and what it leaves.
-use Rattle.std.specs.Prelude.{◌≡◌, ◌⊎◌, ℕ, ◌<◌, List, [], ◌∷◌, ◌++◌, length, slice_get, slice_index_or, Some, IsPermutation}
+-- The answers of a script: one legal history of its object in which each call stands in its place, with its reply, and what it leaves.
+use Rattle.std.specs.Prelude.{◌≡◌, ℕ, ◌<◌, List, [], ◌∷◌, ◌++◌, length, slice_get, slice_index_or, Some, IsPermutation}
 use Rattle.std.specs.List.{flat_map}
 use Rattle.std.specs.List.Sorted.{IsNonDecreasing}
 use Rattle.pass_book.specs.declared.entries.Entry.{Entry}
-use Rattle.pass_book.specs.Histories.{Leaves, entries_of, IsOfCallers}
+use Rattle.pass_book.specs.Histories.{Leaves, IsOfOthers, IsOfCallers}
 use Rattle.seq_objects.specs.BagSteps.{BagStep}
 use Rattle.seq_objects.specs.ListSteps.{opening_list}
 use Rattle.seq_objects.specs.Meanings.{ListOpens, ListSteps, BagOpens, DequeOpens, DequeSteps}
@@ -14,31 +14,29 @@ use Rattle.script_text.specs.declared.replies.Reply.{Reply}
 use Rattle.script_text.specs.declared.replies.Replies.{Replies}
 use Rattle.script_text.specs.Replies.{reply_lists, left_items}
 use Rattle.script_text.specs.Scripts.{PlainScript, IsValid}
-use Rattle.script_engine.specs.Shown.{ShowsList, ShowsBag, ShowsDeque, IsTooLong, Never}
+use Rattle.script_engine.specs.Says.{SaysList, SaysBag, SaysDeque}
 
-module _ {Asked Told : Type 0} (Shows : Call → Reply → Asked → Told → Type 0) (HasNoEntry : Call → Reply → Type 0) where
-  -- A caller's calls with their replies: each has the next of these entries, unless its reply is one without.
-  abbrev pub AreEntered : ℕ → List Call → List Reply → List (Entry Asked Told) → Type 0
-  AreEntered caller [] [] entries = entries ≡ []
-  AreEntered caller (call ∷ calls) (reply ∷ replies) entries =
-      (HasNoEntry call reply × AreEntered caller calls replies entries)
-      ⊎ ((asked : Asked) × (told : Told) × (rest : List (Entry Asked Told)) × Shows call reply asked told
-      × AreEntered caller calls replies rest × (entries ≡ record { caller = caller; call = asked; reply = told } ∷ rest))
-  AreEntered caller calls replies entries = ⊥
+module _ {Asked Told : Type 0} (Says : ℕ → Call → Reply → List (Entry Asked Told) → List (Entry Asked Told) → Type 0) where
+  -- How a caller's calls of a round, with their replies, stand in the round's part of the history, before which these
+  -- entries stand: each call has a stretch of it, one behind another, and nothing of the caller stands behind the last.
+  abbrev pub Stands : ℕ → List (Entry Asked Told) → List Call → List Reply → List (Entry Asked Told) → Type 0
+  Stands caller before [] [] part = IsOfOthers caller part
+  Stands caller before (call ∷ calls) (reply ∷ replies) part =
+      (stretch rest : List (Entry Asked Told)) × (part ≡ stretch ++ rest) × Says caller call reply before stretch × Stands caller (before ++ stretch) calls replies rest
+  Stands caller before calls replies part = ⊥
 
-  -- One round: each caller's entries are its calls of the round with their replies, and there are no others.
-  pub record AnswersRound (calls : List (List Call)) (replies : List (List Reply)) (history : List (Entry Asked Told)) : Type 0 where
+  -- One round: each caller's calls stand in it with their replies.
+  pub record AnswersRound (before : List (Entry Asked Told)) (calls : List (List Call)) (replies : List (List Reply)) (part : List (Entry Asked Told)) : Type 0 where
     pub each : length replies ≡ length calls
-    pub callers : IsOfCallers (length calls) history
-    pub entered : (caller : ℕ) (its : List Call) (told : List Reply) → slice_get calls caller ≡ Some its → slice_get replies caller ≡ Some told
-        → AreEntered caller its told (entries_of caller history)
+    pub stands : (caller : ℕ) (its : List Call) (told : List Reply) → slice_get calls caller ≡ Some its → slice_get replies caller ≡ Some told
+        → Stands caller before its told part
 
-  -- All entries of a round stand before all of a later round.
-  abbrev pub AnswersRounds : List (List (List Call)) → List (List (List Reply)) → List (Entry Asked Told) → Type 0
-  AnswersRounds [] [] history = history ≡ []
-  AnswersRounds (calls ∷ rounds) (replies ∷ rest) history =
-      (now later : List (Entry Asked Told)) × AnswersRound calls replies now × AnswersRounds rounds rest later × (history ≡ now ++ later)
-  AnswersRounds rounds replies history = ⊥
+  -- All of a round stands before all of a later round.
+  abbrev pub AnswersRounds : List (Entry Asked Told) → List (List (List Call)) → List (List (List Reply)) → List (Entry Asked Told) → Type 0
+  AnswersRounds before [] [] history = history ≡ []
+  AnswersRounds before (calls ∷ rounds) (replies ∷ rest) history =
+      (now later : List (Entry Asked Told)) × AnswersRound before calls replies now × AnswersRounds (before ++ now) rounds rest later × (history ≡ now ++ later)
+  AnswersRounds before rounds replies history = ⊥
 
 -- The replies of each caller are those of round after round.
 pub record AreJoined (callers : ℕ) (rounds : List (List (List Reply))) (replies : List (List Reply)) : Type 0 where
@@ -47,23 +45,28 @@ pub record AreJoined (callers : ℕ) (rounds : List (List (List Reply))) (replie
 
 module _ {Asked Told State : Type 0} (opens : State → Type 0) (step : State → Asked → Told → State → Type 0) where
   -- An object that opens so answers the script so, and this is left.
-  pub record Answers (Shows : Call → Reply → Asked → Told → Type 0) (HasNoEntry : Call → Reply → Type 0) (start : State) (script : PlainScript) (replies : List (List Reply)) (IsLeft : State → Type 0) : Type 0 where
+  pub record Answers (Says : ℕ → Call → Reply → List (Entry Asked Told) → List (Entry Asked Told) → Type 0) (start : State) (script : PlainScript) (replies : List (List Reply)) (IsLeft : State → Type 0) : Type 0 where
     pub rounds : List (List (List Reply))
     pub joined : AreJoined script.callers rounds replies
     pub history : List (Entry Asked Told)
-    pub answers : AnswersRounds Shows HasNoEntry script.rounds rounds history
+    pub answers : AnswersRounds Says [] script.rounds rounds history
+    pub callers : IsOfCallers script.callers history
     pub state : State
     pub leaves : Leaves opens step start history state
     pub left : IsLeft state
 
--- the script's answer, by its object; what is left of a bag is its items in rising order
+-- What is left of a bag is its items in rising order.
+abbrev pub IsRisingOrder : List ℕ → List ℕ → Type 0
+IsRisingOrder items bag = IsPermutation bag items × IsNonDecreasing items
+
+-- the script's answer, by its object
 abbrev pub AnswersOf : ObjectLine → PlainScript → List (List Reply) → List ℕ → Type 0
 AnswersOf (AList locales objects width) script replies items =
-    Answers ListOpens ListSteps ShowsList (IsTooLong width) (record { width = width; items = opening_list width }) script replies (λ state. items ≡ state.items)
+    Answers ListOpens ListSteps (SaysList width) (record { width = width; items = opening_list width }) script replies (λ state. items ≡ state.items)
 AnswersOf (ABag locales segments room) script replies items =
-    Answers BagOpens BagStep ShowsBag Never [] script replies (λ state. IsPermutation state items × IsNonDecreasing items)
+    Answers BagOpens BagStep SaysBag [] script replies (IsRisingOrder items)
 AnswersOf (ADeque locales capacity) script replies items =
-    Answers DequeOpens DequeSteps ShowsDeque Never (record { capacity = capacity; items = [] }) script replies (λ state. items ≡ state.items)
+    Answers DequeOpens DequeSteps SaysDeque (record { capacity = capacity; items = [] }) script replies (λ state. items ≡ state.items)
 
 -- The replies are an answer of the script.
 abbrev pub IsAnswer : PlainScript → Replies → Type 0

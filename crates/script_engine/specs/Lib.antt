@@ -5,5 +5,12 @@ pub use Rattle.seq_objects.specs.Meanings
 pub use Rattle.script_text.specs.Replies
 pub use Rattle.script_text.specs.Scripts
 pub mod Answers
+pub mod Says
 pub mod Replied
+pub mod Rounds
+pub mod Numbers
+pub mod Widening
+pub mod Workers
+pub mod Runs
 pub mod Shown
+pub mod DequeCalls

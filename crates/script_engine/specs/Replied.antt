@@ -49,6 +49,12 @@ Replied does from [] [] to = to ≡ from
 Replied {State} does from (call ∷ calls) (reply ∷ replies) to = (next : State) × does from call reply next × Replied does next calls replies to
 Replied does from calls replies to = ⊥
 
+-- No call was made, or the calls before one were, and that one was refused.
+abbrev pub StopsEarly : {State : Type 0} → (State → Call → Reply → State → Type 0) → (State → Call → State → Type 0) → State → List Call → State → Type 0
+StopsEarly {State} does refuses from calls to =
+    (to ≡ from)
+    ⊎ ((made rest : List Call) × (call : Call) × (told : List Reply) × (mid : State) × (calls ≡ made ++ call ∷ rest) × Replied does from made told mid × refuses mid call to)
+
 -- the replies of these calls follow the old ones
 abbrev pub HasReplied : {State : Type 0} → (State → Call → Reply → State → Type 0) → State → List Call → State → List Reply → List Reply → Type 0
 HasReplied does from calls to old new = (told : List Reply) × Replied does from calls told to × (new ≡ old ++ told)

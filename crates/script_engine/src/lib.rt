@@ -6,10 +6,19 @@
 #![tactic(auto)]
 
 mod alone;
+mod calls;
+mod deque_calls;
 mod laws;
+mod many;
+mod notes;
 mod objects;
+mod rounds;
+mod scripts;
+mod shared;
 #[cfg(test)]
 mod tests;
 
 pub use alone::run_alone;
+pub use deque_calls::call_deque;
 pub use laws::answers_once;
+pub use scripts::run_script;

@@ -4,9 +4,11 @@ ghost use Rattle.script_text.specs.Scripts.{IsValid, plain_script};
 
 use super::*;
 use script_text::{Script, ScriptFault, read_script, write_replies};
-use shared_io::SureSource;
+use shared_io::{OpenGate, SureSource};
 use std::alloc::Global;
+use std::sync::Wait;
 use std::test::Fail;
+use std::thread::Threads;
 
 fn read(alloc: Global, text: &str) -> Result<Script, ScriptFault>
     ensures { IfOk result (λ script. IsValid (plain_script script)) }
@@ -22,6 +24,9 @@ fn replies(alloc: Global, text: &str) -> Result<String, Fail> {
     let Ok(script) = read(alloc, text) else {
         return Err("the script is not read".into());
     };
+    if script.callers != 1 {
+        return Err("the script has several callers".into());
+    }
     let replies = run_alone(alloc, &script)?;
     Ok(write_replies(alloc, &replies)?)
 }
@@ -62,6 +67,61 @@ fn rounds_go_on_where_the_last_one_ended(rt: HostRuntime) -> Result<(), Fail> {
     ];
     for (script, want) in rows {
         assert_eq!(rt; replies(rt.alloc(), script)?.as_str(), want);
+    }
+    Ok(())
+}
+
+// The same of the script on the objects that callers share.
+fn shared_replies<R: Threads + Wait + Sync>(
+    rt: &R,
+    alloc: Global,
+    text: &str,
+) -> Result<String, Fail> {
+    let Ok(script) = read(alloc, text) else {
+        return Err("the script is not read".into());
+    };
+    let replies = run_script(rt, alloc, &script, &OpenGate)?;
+    Ok(write_replies(alloc, &replies)?)
+}
+
+#[test]
+fn a_shared_deque_answers_a_single_caller_as_the_plain_one(rt: HostRuntime) -> Result<(), Fail> {
+    let rows = [
+        "pgas 1\nobject deque 1 1\ncallers 1\ncaller 0\npush_back 1\npush_front 2\npop_back\ntry pop_back\nend\n",
+        "pgas 1\nobject deque 2 2\ncallers 1\nround\ncaller 0\npush_back 1\nround\nround\ncaller 0\npush_front 2\ntry push_back 3\ncaller 0\npop_back\nend\n",
+    ];
+    for script in rows {
+        let plain = replies(rt.alloc(), script)?;
+        assert_eq!(rt;
+            shared_replies(&rt, rt.alloc(), script)?.as_str(),
+            plain.as_str()
+        );
+    }
+    Ok(())
+}
+
+#[test]
+fn a_later_round_comes_after(rt: HostRuntime) -> Result<(), Fail> {
+    let text =
+        "pgas 1\nobject deque 2 1\ncallers 3\ncaller 2\npush_back 7\nround\ncaller 0\npush_back 8\nround\ncaller 1\npop_front\nround\ncaller 2\npop_front\nend\n";
+    assert_eq!(rt;
+        shared_replies(&rt, rt.alloc(), text)?.as_str(),
+        "caller 0\nfull\ncaller 1\ntook 7\ncaller 2\npushed\nempty\nleft\n"
+    );
+    Ok(())
+}
+
+// Which of two callers is first in a round is open, and every other answer is wrong.
+#[test]
+fn two_callers_push_in_one_round(rt: HostRuntime) -> Result<(), Fail> {
+    let text =
+        "pgas 1\nobject deque 1 4\ncallers 2\ncaller 0\npush_back 1\ncaller 1\npush_back 2\nround\ncaller 0\npop_front\npop_front\nend\n";
+    for _ in 0..100 {
+        let told = shared_replies(&rt, rt.alloc(), text)?;
+        assert!(rt;
+            told.as_str() == "caller 0\npushed\ntook 1\ntook 2\ncaller 1\npushed\nleft\n"
+                || told.as_str() == "caller 0\npushed\ntook 2\ntook 1\ncaller 1\npushed\nleft\n"
+        );
     }
     Ok(())
 }

@@ -1,7 +1,7 @@
 -- An input has one answer: one script, or one first refusal.
 use Rattle.std.proofs.Common.{◌≡◌, ◌≢◌, ◌⊎◌, ℕ, ◌+◌, ◌<◌, ◌≤◌, ◌^◌, List, [], ◌∷◌, ◌++◌, length, sum_by, Option, Some, Result, Ok, Err, refl, ap, sym, ◌∙◌, subst, arith, inl, inr, append-nil, append_assoc, length-append}
 use Rattle.std.proofs.lemmas.List.Sums.{sum_by-cons}
-use Rattle.shared_io.specs.declared.limits.TooKind.TheVariants.{Id, Edges, Bytes, Calls}
+use Rattle.shared_io.specs.declared.limits.TooKind.TheVariants.{Id, Edges, Bytes, Weight, Calls, Steps}
 use Rattle.script_text.specs.declared.scripts.Call.{Call}
 use Rattle.script_text.specs.declared.lines.Line.{Line}
 use Rattle.script_text.specs.declared.lines.Line.TheVariants.{End}
@@ -109,6 +109,8 @@ stops_mid from part rest counted size lines byte (Err fault) within goes below s
     early (TooLarge Bytes line) no_cause = no_cause
     early (TooLarge Id line) no_cause = no_cause
     early (TooLarge Edges line) no_cause = no_cause
+    early (TooLarge Weight line) no_cause = no_cause
+    early (TooLarge Steps line) no_cause = no_cause
     early ReadFault no_cause = no_cause
     early OutOfMemory no_cause = no_cause
 
@@ -125,6 +127,8 @@ stops_end from part rest counted size lines says (Err fault) is other few below 
     early (TooLarge Bytes line) no_cause = no_cause
     early (TooLarge Id line) no_cause = no_cause
     early (TooLarge Edges line) no_cause = no_cause
+    early (TooLarge Weight line) no_cause = no_cause
+    early (TooLarge Steps line) no_cause = no_cause
     early ReadFault no_cause = no_cause
     early OutOfMemory no_cause = no_cause
 
@@ -184,7 +188,11 @@ byte_fault stage part rest counted size line byte (TooLarge Bytes same) (inr cau
 byte_fault stage part rest counted size line byte (TooLarge Id same) (inl cause) names = absurd cause.1
 byte_fault stage part rest counted size line byte (TooLarge Id same) (inr cause) names = absurd cause.1
 byte_fault stage part rest counted size line byte (TooLarge Edges same) (inl cause) names = absurd cause.1
+byte_fault stage part rest counted size line byte (TooLarge Weight same) (inl cause) names = absurd cause.1
+byte_fault stage part rest counted size line byte (TooLarge Steps same) (inl cause) names = absurd cause.1
 byte_fault stage part rest counted size line byte (TooLarge Edges same) (inr cause) names = absurd cause.1
+byte_fault stage part rest counted size line byte (TooLarge Weight same) (inr cause) names = absurd cause.1
+byte_fault stage part rest counted size line byte (TooLarge Steps same) (inr cause) names = absurd cause.1
 byte_fault stage part rest counted size line byte ReadFault cause names = absurd names
 byte_fault stage part rest counted size line byte OutOfMemory cause names = absurd names
 

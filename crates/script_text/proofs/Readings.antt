@@ -23,7 +23,7 @@ use Rattle.script_text.proofs.Standings.{lead_leads, line_ended, line_completes,
 pub record HasCome (left_before left_now : Option (List ℕ)) (faults_before faults_now total : ℕ) (draft : Draft) (place : Place) : Type 0 where
   pub read : List ℕ
   pub consumed : Consumes left_before left_now read
-  pub count : faults_before ≤ faults_now
+  pub count : faults_now ≡ faults_before
   pub total_is : length read ≡ total
   pub room : total ≤ 2 ^ 30
   pub lines : draft.line ≤ total + 1
@@ -33,7 +33,7 @@ pub come_nothing : (left : Option (List ℕ)) (faults : ℕ) (draft : Draft) →
 come_nothing left faults draft progress counted line is = record {
   read = [];
   consumed = Consumes-nil left;
-  count = omega arith;
+  count = refl;
   total_is = refl;
   room = omega arith;
   lines = omega (arith, line);
@@ -87,28 +87,29 @@ module _ {left_before left_now : Option (List ℕ)} {faults_before faults_now to
   asked_last : WasAskedFor come.read
   asked_last = record { earlier = come.read; piece = []; parts = sym (append-nil come.read); opened = opened; bounded = omega arith }
 
-  module _ (left_after : Option (List ℕ)) (faults_after : ℕ) (rises : faults_now ≤ faults_after) where
+  -- the source failed
+  pub reading_failed : (left_after : Option (List ℕ)) (faults_after : ℕ) → faults_now ≤ faults_after → Keeps left_now left_after → Rose faults_now faults_after → Reading left_before left_after faults_before faults_after (Err ReadFault)
+  reading_failed left_after faults_after rises same rose = record {
+    read = come.read;
+    consumed = Consumes-kept left_before left_now left_after come.read come.consumed same;
+    asked = asked_last;
+    count = omega (arith, come.count, rises);
+    steady = λ other. absurd (other refl);
+    means = (⊎_elim (λ more. inl (omega (arith, more, come.count))) inr rose, opened);
+  }
+
+  module _ (left_after : Option (List ℕ)) (faults_after : ℕ) (kept : faults_after ≡ faults_now) where
     -- the piece leads on
     pub come_piece : (piece : List ℕ) (next_draft : Draft) (next : Place) → Consumes left_now left_after piece → HasReachedBehind come.read piece (2 ^ 30 - total) next_draft (Within next) → next_draft.line ≤ draft.line + length piece
         → HasCome left_before left_after faults_before faults_after (total + length piece) next_draft next
     come_piece piece next_draft next consumed led lines = record {
       read = come.read ++ piece;
       consumed = Consumes-trans left_before left_now left_after come.read piece come.consumed consumed;
-      count = omega (arith, come.count, rises);
+      count = kept ∙ come.count;
       total_is = omega (arith, length-append come.read piece, come.total_is);
       room = omega (arith, led.1, come.room);
       lines = omega (arith, lines, come.lines);
       stands = led.0;
-    }
-
-    -- the source failed
-    pub reading_failed : Keeps left_now left_after → Rose faults_now faults_after → Reading left_before left_after faults_before faults_after (Err ReadFault)
-    reading_failed kept rose = record {
-      read = come.read;
-      consumed = Consumes-kept left_before left_now left_after come.read come.consumed kept;
-      asked = asked_last;
-      count = omega (arith, come.count, rises);
-      means = (⊎_elim (λ more. inl (omega (arith, more, come.count))) inr rose, opened);
     }
 
     end_fault : (fault : ScriptFault) → IsAtEnd left_after → IsEndFault draft place fault → HasCause come.read (IsAtEnd left_after) (Rose faults_before faults_after) fault
@@ -132,7 +133,8 @@ module _ {left_before left_now : Option (List ℕ)} {faults_before faults_now to
       read = come.read;
       consumed = subst (Consumes left_before left_after) (append-nil come.read) (Consumes-trans left_before left_now left_after come.read [] come.consumed none);
       asked = asked_last;
-      count = omega (arith, come.count, rises);
+      count = omega (arith, come.count, kept);
+      steady = λ other. kept ∙ come.count;
       means = means answer ends;
     }
       where
@@ -172,7 +174,8 @@ module _ {left_before left_now : Option (List ℕ)} {faults_before faults_now to
         read = come.read ++ piece;
         consumed = Consumes-trans left_before left_now left_after come.read piece come.consumed consumed;
         asked = asked_piece;
-        count = omega (arith, come.count, rises);
+        count = omega (arith, come.count, kept);
+        steady = λ other. kept ∙ come.count;
         means = piece_fault fault is;
       }
 
@@ -183,7 +186,8 @@ module _ {left_before left_now : Option (List ℕ)} {faults_before faults_now to
         read = come.read ++ piece;
         consumed = Consumes-trans left_before left_now left_after come.read piece come.consumed consumed;
         asked = asked_piece;
-        count = omega (arith, come.count, rises);
+        count = omega (arith, come.count, kept);
+        steady = λ other. kept ∙ come.count;
         means = means answer made;
       }
         where
@@ -234,5 +238,6 @@ reading_nothing left faults = record {
     bounded = omega arith;
   };
   count = omega arith;
+  steady = λ other. refl;
   means = tt;
 }

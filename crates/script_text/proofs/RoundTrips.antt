@@ -17,6 +17,7 @@ use Rattle.script_text.specs.declared.scripts.Call.TheVariants.{List as OfList, 
 use Rattle.script_text.specs.declared.lines.Line.{Line}
 use Rattle.script_text.specs.declared.lines.Line.TheVariants.{Pgas, Object, Callers, Caller, Round, Call as ACall, End}
 use Rattle.script_text.specs.declared.lines.Stage.TheVariants.{InRound}
+use Rattle.script_text.proofs.Tables.{few_callers}
 use Rattle.script_text.specs.Lines.{IsObject, IsCallers, IsCallOf, HasSmallNumbers, MayCome, line_tokens}
 use Rattle.script_text.specs.Scripts.{PlainScript, written_words, spaced, written_line, written_calls, written_callers, written_rounds, written, IsRoundOf, counted_lines, IsValid}
 use Rattle.script_text.specs.ScriptText.{Progress, beginning, with_call, line_after, after, AreLines, counts, HasScript}
@@ -135,7 +136,7 @@ led_line at line may other small = record {
 
 -- ---- a round
 
-module _ (object : ObjectLine) (callers : ℕ) (few : IsCallers callers) (before : List (List (List Call))) where
+module _ (object : ObjectLine) (callers : ℕ) (few : IsCallers object callers) (before : List (List (List Call))) where
   abbrev speaking : Option ℕ → List (List Call) → Progress
   speaking caller lists = record { stage = InRound object callers caller; before = before; calls = lists }
 
@@ -175,7 +176,7 @@ module _ (object : ObjectLine) (callers : ℕ) (few : IsCallers callers) (before
         last = Some (length done);
         led = counted_so from (written_calls (length done) (call ∷ calls)) to (0 + length (call ∷ calls)) (length (call ∷ calls)) (omega arith)
             (led_append from mid to (written_line (Caller (length done))) (flat_map (λ call. written_line (ACall call)) (call ∷ calls)) 0 (length (call ∷ calls))
-            (led_line from (Caller (length done)) below (λ same. cc) (omega (arith, below, few.1), tt)) (calls_lead (call ∷ calls) done [] rest all));
+            (led_line from (Caller (length done)) below (λ same. cc) (omega (arith, below, few.1, few_callers object), tt)) (calls_lead (call ∷ calls) done [] rest all));
       }
 
   callers_led : (lists done : List (List Call)) (caller : Option ℕ) → length done + length lists ≤ callers → All (All (IsCallOf object callers)) lists
@@ -208,7 +209,7 @@ record RoundsLed (object : ObjectLine) (callers : ℕ) (caller : Option ℕ) (be
   led : Led (record { stage = InRound object callers caller; before = before; calls = calls }) text (record { stage = InRound object callers last; before = done; calls = present }) count
   all : done ++ present ∷ [] ≡ before ++ calls ∷ rounds
 
-rounds_led : (object : ObjectLine) (callers : ℕ) → IsCallers callers → (rounds : List (List (List Call))) (caller : Option ℕ) (before : List (List (List Call))) (calls : List (List Call)) → length calls ≡ callers → All (IsRoundOf object callers) rounds
+rounds_led : (object : ObjectLine) (callers : ℕ) → IsCallers object callers → (rounds : List (List (List Call))) (caller : Option ℕ) (before : List (List (List Call))) (calls : List (List Call)) → length calls ≡ callers → All (IsRoundOf object callers) rounds
     → RoundsLed object callers caller before calls (flat_map (λ round. written_line Round ++ written_callers 0 round) rounds) rounds (sum_by (sum_by length) rounds + length rounds)
 rounds_led object callers few [] caller before calls each all = record {
   last = caller;
@@ -241,7 +242,7 @@ rounds_led object callers few (round ∷ rounds) caller before calls each all =
 
 -- ---- the whole text
 
-head_led : (object : ObjectLine) (callers : ℕ) → IsObject object → IsCallers callers
+head_led : (object : ObjectLine) (callers : ℕ) → IsObject object → IsCallers object callers
     → Led beginning (written_line Pgas ++ (written_line (Object object) ++ written_line (Callers callers))) (record { stage = InRound object callers None; before = []; calls = replicate callers [] }) 0
 head_led object callers is few =
     let first = line_after beginning Pgas in
@@ -249,9 +250,9 @@ head_led object callers is few =
     let third = line_after second (Callers callers) in
     led_append beginning first third (written_line Pgas) (written_line (Object object) ++ written_line (Callers callers)) 0 0 (led_line beginning Pgas tt (λ same. cc) tt)
     (led_append first second third (written_line (Object object)) (written_line (Callers callers)) 0 0 (led_line first (Object object) is (λ same. cc) (object_small object is))
-    (led_line second (Callers callers) few (λ same. cc) (omega (arith, few.1), tt)))
+    (led_line second (Callers callers) few (λ same. cc) (omega (arith, few.1, few_callers object), tt)))
 
-rounds_text_led : (object : ObjectLine) (callers : ℕ) → IsCallers callers → (rounds : List (List (List Call))) → 0 < length rounds → All (IsRoundOf object callers) rounds → (last : Option ℕ) × (done : List (List (List Call))) × (present : List (List Call))
+rounds_text_led : (object : ObjectLine) (callers : ℕ) → IsCallers object callers → (rounds : List (List (List Call))) → 0 < length rounds → All (IsRoundOf object callers) rounds → (last : Option ℕ) × (done : List (List (List Call))) × (present : List (List Call))
     × Led (record { stage = InRound object callers None; before = []; calls = replicate callers [] }) (written_rounds rounds) (record { stage = InRound object callers last; before = done; calls = present }) (counted_lines rounds) × (done ++ present ∷ [] ≡ rounds)
 rounds_text_led object callers few [] some all = absurd (omega (arith, some))
 rounds_text_led object callers few (round ∷ rounds) some all =

@@ -27,7 +27,7 @@ use Rattle.script_text.specs.declared.grammar.Slot.TheVariants.{ListLocales, Lis
 use Rattle.script_text.specs.declared.grammar.Expected.{Expected}
 use Rattle.script_text.specs.declared.grammar.Expected.TheVariants.{Word, Number, Nothing}
 use Rattle.script_text.specs.Grammar.{text, words, word_after, kind_of, choice_at, least, most, InRange, number_after, IsChoice, IsExpected, IsStage}
-use Rattle.script_text.specs.Lines.{line_tokens, call_tokens, with_try, MayCome, IsObject, IsCallers, IsOfObject, is_once, HasSmallNumbers}
+use Rattle.script_text.specs.Lines.{line_tokens, call_tokens, with_try, MayCome, IsObject, most_callers, IsOfObject, is_once, HasSmallNumbers}
 use Rattle.script_text.specs.Places.{Makes}
 use Rattle.script_text.specs.Words.{Token, Keyword, Number as Numeral}
 use Rattle.script_text.proofs.Vocabulary.{Among}
@@ -49,7 +49,7 @@ before_slot (BagSegments locales) = Keyword (codes "object") ∷ Keyword (codes 
 before_slot (BagRoom locales segments) = Keyword (codes "object") ∷ Keyword (codes "bag") ∷ Numeral locales ∷ Numeral segments ∷ []
 before_slot DequeLocales = Keyword (codes "object") ∷ Keyword (codes "deque") ∷ []
 before_slot (DequeCapacity locales) = Keyword (codes "object") ∷ Keyword (codes "deque") ∷ Numeral locales ∷ []
-before_slot SCallers = Keyword (codes "callers") ∷ []
+before_slot (SCallers limit) = Keyword (codes "callers") ∷ []
 before_slot (SCaller callers) = Keyword (codes "caller") ∷ []
 before_slot ReadAt = Keyword (codes "read") ∷ []
 before_slot WriteAt = Keyword (codes "write") ∷ []
@@ -79,9 +79,9 @@ abbrev IsAtObject : Stage → Type 0
 IsAtObject AtObject = Unit {0}
 IsAtObject stage = ⊥
 
-abbrev IsAtCallers : Stage → Type 0
-IsAtCallers (AtCallers object) = Unit {0}
-IsAtCallers stage = ⊥
+abbrev IsAtCallers : Stage → ℕ → Type 0
+IsAtCallers (AtCallers object) limit = most_callers object ≡ limit
+IsAtCallers stage limit = ⊥
 
 abbrev HasCallers : Stage → ℕ → Type 0
 HasCallers (InRound object callers caller) same = callers ≡ same
@@ -100,7 +100,7 @@ ReachesChoice stage CPgas = IsAtPgas stage
 ReachesChoice stage COne = IsAtPgas stage
 ReachesChoice stage CObject = IsAtObject stage
 ReachesChoice stage CKind = IsAtObject stage
-ReachesChoice stage CCallers = IsAtCallers stage
+ReachesChoice stage (CCallers limit) = IsAtCallers stage limit
 ReachesChoice stage (Silent callers) = HasCallers stage callers
 ReachesChoice stage (Spoken kind callers) = IsSpoken stage kind × HasCallers stage callers
 ReachesChoice stage (CTry kind) = IsSpoken stage kind × HasOne stage
@@ -114,7 +114,7 @@ ReachesSlot stage (BagSegments locales) = IsAtObject stage × InRange BagLocales
 ReachesSlot stage (BagRoom locales segments) = IsAtObject stage × InRange BagLocales locales × InRange (BagSegments locales) segments
 ReachesSlot stage DequeLocales = IsAtObject stage
 ReachesSlot stage (DequeCapacity locales) = IsAtObject stage × InRange DequeLocales locales
-ReachesSlot stage SCallers = IsAtCallers stage
+ReachesSlot stage (SCallers limit) = IsAtCallers stage limit
 ReachesSlot stage (SCaller callers) = HasCallers stage callers × (1 ≤ callers)
 ReachesSlot stage ReadAt = IsSpoken stage KList
 ReachesSlot stage WriteAt = IsSpoken stage KList
@@ -200,7 +200,7 @@ word_row CObject Object = record { among = inl refl; expected = λ is. tt; reach
 word_row CKind WList = record { among = inl refl; expected = λ is. tt; reaches = λ stage at. at.0; tokens = refl }
 word_row CKind WBag = record { among = inr (inl refl); expected = λ is. tt; reaches = λ stage at. at.0; tokens = refl }
 word_row CKind WDeque = record { among = inr (inr (inl refl)); expected = λ is. tt; reaches = λ stage at. at.0; tokens = refl }
-word_row CCallers Callers = record { among = inl refl; expected = λ is. tt; reaches = λ stage at. at.0; tokens = refl }
+word_row (CCallers limit) Callers = record { among = inl refl; expected = λ is. is; reaches = λ stage at. at.0; tokens = refl }
 word_row (Silent callers) Caller = record { among = inl refl; expected = λ is. is; reaches = λ stage at. at; tokens = refl }
 word_row (Silent callers) Round = record { among = inr (inl refl); expected = λ is. tt; reaches = λ stage at. round_may_come stage callers at.0; tokens = refl }
 word_row (Silent callers) End = record { among = inr (inr (inl refl)); expected = λ is. tt; reaches = λ stage at. end_may_come stage callers at.0; tokens = refl }
@@ -259,11 +259,11 @@ object_may_come AtPgas object at is = absurd at
 object_may_come (AtCallers other) object at is = absurd at
 object_may_come (InRound other callers caller) object at is = absurd at
 
-callers_may_come : (stage : Stage) (callers : ℕ) → IsAtCallers stage → IsCallers callers → MayCome stage (CallersAre callers)
-callers_may_come (AtCallers object) callers at is = is
-callers_may_come AtPgas callers at is = absurd at
-callers_may_come AtObject callers at is = absurd at
-callers_may_come (InRound object other caller) callers at is = absurd at
+callers_may_come : (stage : Stage) (limit callers : ℕ) → IsAtCallers stage limit → 1 ≤ callers → callers ≤ limit → MayCome stage (CallersAre callers)
+callers_may_come (AtCallers object) limit callers at some below = (some, omega (arith, at, below))
+callers_may_come AtPgas limit callers at some below = absurd at
+callers_may_come AtObject limit callers at some below = absurd at
+callers_may_come (InRound object other caller) limit callers at some below = absurd at
 
 caller_may_come : (stage : Stage) (callers caller : ℕ) → HasCallers stage callers → caller < callers → MayCome stage (CallerIs caller)
 caller_may_come (InRound object same other) callers caller has below = omega (arith, has, below)
@@ -294,7 +294,7 @@ number_reaches stage (BagSegments locales) number at range = (at.0, at.1, range)
 number_reaches stage (BagRoom locales segments) number at range = object_may_come stage (ABag locales segments number) at.0 (at.1.0, at.1.1, at.2.0, at.2.1, range.0, range.1)
 number_reaches stage DequeLocales number at range = (at, range)
 number_reaches stage (DequeCapacity locales) number at range = object_may_come stage (ADeque locales number) at.0 (at.1.0, at.1.1, range.0, range.1)
-number_reaches stage SCallers number at range = callers_may_come stage number at range
+number_reaches stage (SCallers limit) number at range = callers_may_come stage limit number at range.0 range.1
 number_reaches stage (SCaller callers) number at range = caller_may_come stage callers number at.0 (omega (arith, at.1, range.1))
 number_reaches stage ReadAt number at range = call_may_come stage (OfList (ReadCall number)) at (λ once. absurd (no_small once)) (small number range.1, tt)
 number_reaches stage WriteAt number at range = (at, small number range.1)
@@ -321,7 +321,7 @@ number_tokens (BagSegments locales) number = refl
 number_tokens (BagRoom locales segments) number = refl
 number_tokens DequeLocales number = refl
 number_tokens (DequeCapacity locales) number = refl
-number_tokens SCallers number = refl
+number_tokens (SCallers limit) number = refl
 number_tokens (SCaller callers) number = refl
 number_tokens ReadAt number = refl
 number_tokens WriteAt number = refl
@@ -341,10 +341,20 @@ number_tokens (SPushFront false) number = refl
 
 -- ---- the lines of a stage
 
+some_callers : (object : ObjectLine) → 1 ≤ most_callers object
+some_callers (AList locales objects width) = omega arith
+some_callers (ABag locales segments room) = omega arith
+some_callers (ADeque locales capacity) = omega arith
+
+pub few_callers : (object : ObjectLine) → most_callers object ≤ 64
+few_callers (AList locales objects width) = omega arith
+few_callers (ABag locales segments room) = omega arith
+few_callers (ADeque locales capacity) = omega arith
+
 stage_reaches : (stage : Stage) → IsStage stage → Reaches stage (Word (choice_at stage))
 stage_reaches AtPgas is = (tt, tt)
 stage_reaches AtObject is = (tt, tt)
-stage_reaches (AtCallers object) is = (tt, tt)
+stage_reaches (AtCallers object) is = (refl, some_callers object)
 stage_reaches (InRound object callers None) is = (refl, is)
 stage_reaches (InRound object callers (Some caller)) is = ((refl, refl), is)
 
@@ -424,7 +434,7 @@ line_makes AtObject (ObjectIs (ABag locales segments room)) may =
     (Object, Word CKind, refl, refl, (WBag, Number BagLocales, refl, refl, ((may.0, may.1), ((may.2, may.3), ((may.4, may.5), refl)))))
 line_makes AtObject (ObjectIs (ADeque locales capacity)) may =
     (Object, Word CKind, refl, refl, (WDeque, Number DequeLocales, refl, refl, ((may.0, may.1), ((may.2, may.3), refl))))
-line_makes (AtCallers object) (CallersAre callers) may = (Callers, Number SCallers, refl, refl, (may, refl))
+line_makes (AtCallers object) (CallersAre callers) may = (Callers, Number (SCallers (most_callers object)), refl, refl, (may, refl))
 line_makes (InRound object callers None) (CallerIs next) may = (Caller, Number (SCaller callers), refl, refl, ((omega arith, omega (arith, may)), refl))
 line_makes (InRound object callers None) RoundLine may = (Round, Nothing RoundLine, refl, refl, refl)
 line_makes (InRound object callers None) EndLine may = (End, Nothing EndLine, refl, refl, refl)

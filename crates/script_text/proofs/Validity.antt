@@ -14,6 +14,7 @@ use Rattle.script_text.specs.declared.lines.Line.{Line}
 use Rattle.script_text.specs.declared.lines.Line.TheVariants.{Pgas, Object, Callers, Caller, Round, Call as ACall, End}
 use Rattle.script_text.specs.declared.lines.Stage.{Stage}
 use Rattle.script_text.specs.declared.lines.Stage.TheVariants.{AtPgas, AtObject, AtCallers, InRound}
+use Rattle.script_text.proofs.Tables.{few_callers}
 use Rattle.script_text.specs.Lines.{IsObject, IsCallers, IsCallOf, HasSmallNumbers, MayCome, IsLine, stage_after, line_tokens}
 use Rattle.script_text.specs.Reading.{Reading}
 use Rattle.script_text.specs.declared.faults.ScriptFault.{ScriptFault}
@@ -156,7 +157,7 @@ IsCallerOf (Some caller) callers = caller < callers
 -- in a round, behind so many bytes and counted lines
 record HasRounds (object : ObjectLine) (callers : ℕ) (caller : Option ℕ) (before : List (List (List Call))) (calls : List (List Call)) (bytes counted : ℕ) : Type 0 where
   object_is : IsObject object
-  callers_are : IsCallers callers
+  callers_are : IsCallers object callers
   caller_is : IsCallerOf caller callers
   rounds : All (IsRoundOf object callers) before
   each : length calls ≡ callers
@@ -200,7 +201,7 @@ caller_holds object callers old caller before calls bytes counted line below spe
   each = holds.each;
   calls_are = holds.calls_are;
   counted_is = holds.counted_is;
-  size_is = omega (arith, holds.size_is, due_most caller (slice_index_or calls caller []), line_long (Caller caller) line (omega (arith, below, holds.callers_are.1), tt) spelled);
+  size_is = omega (arith, holds.size_is, due_most caller (slice_index_or calls caller []), line_long (Caller caller) line (omega (arith, below, holds.callers_are.1, few_callers object), tt) spelled);
 }
 
 -- a `round` line
@@ -262,7 +263,7 @@ line_holds at line says bytes counted may spelled other holds = by at.stage says
       each = length-replicate callers [];
       calls_are = All-replicate (All (IsCallOf object callers)) callers [] (All-nil (IsCallOf object callers));
       counted_is = omega (arith, holds.1, ap (sum_by (sum_by {X = List Call} length)) holds.0, ap length holds.0, no_lengths callers);
-      size_is = omega (arith, holds.2, ap (sum_by cost) holds.0, no_calls 0 callers, line_long (Callers callers) line (omega (arith, may.1), tt) spelled);
+      size_is = omega (arith, holds.2, ap (sum_by cost) holds.0, no_calls 0 callers, line_long (Callers callers) line (omega (arith, may.1, few_callers object), tt) spelled);
     }
     by (InRound object callers old) (Caller caller) may spelled other holds =
         subst (λ n. HasRounds object callers (Some caller) at.before at.calls (bytes + length line + 1) n) (sym (add-zero counted)) (caller_holds object callers old caller at.before at.calls bytes counted line may spelled holds)

@@ -19,6 +19,7 @@ use Rattle.script_text.specs.declared.grammar.Choice.TheVariants.{Pgas as CPgas,
 use Rattle.script_text.specs.declared.grammar.Slot.{Slot}
 use Rattle.script_text.specs.declared.grammar.Slot.TheVariants.{ListLocales, ListObjects, ListWidth, BagLocales, BagSegments, BagRoom, DequeLocales, DequeCapacity, Callers as SCallers, Caller as SCaller, ReadAt, WriteAt, WriteValue, SwapAt, SwapOld, SwapNew, AddAt, AddValue, GrowTo, BagAdd, PushBack as SPushBack, PushFront as SPushFront}
 use Rattle.script_text.specs.declared.grammar.Bounds.{Bounds}
+use Rattle.script_text.specs.Lines.{most_callers}
 use Rattle.script_text.specs.declared.grammar.Expected.{Expected}
 use Rattle.script_text.specs.declared.grammar.Expected.TheVariants.{Word, Number, Nothing}
 
@@ -63,7 +64,7 @@ words CPgas = Pgas ∷ []
 words COne = One ∷ []
 words CObject = Object ∷ []
 words CKind = WList ∷ WBag ∷ WDeque ∷ []
-words CCallers = Callers ∷ []
+words (CCallers limit) = Callers ∷ []
 words (Silent callers) = Caller ∷ Round ∷ End ∷ []
 words (Spoken kind callers) = spoken_words kind
 words (CTry kind) = tried_words kind
@@ -119,7 +120,7 @@ word_after CObject Object = Some (Word CKind)
 word_after CKind WList = Some (Number ListLocales)
 word_after CKind WBag = Some (Number BagLocales)
 word_after CKind WDeque = Some (Number DequeLocales)
-word_after CCallers Callers = Some (Number SCallers)
+word_after (CCallers limit) Callers = Some (Number (SCallers limit))
 word_after (Silent callers) word = round_word callers word
 word_after (Spoken kind callers) word = spoken_word kind callers word
 word_after (CTry kind) word = tried_word kind word
@@ -134,7 +135,7 @@ kind_of (ADeque locales capacity) = KDeque
 abbrev pub choice_at : Stage → Choice
 choice_at AtPgas = CPgas
 choice_at AtObject = CObject
-choice_at (AtCallers object) = CCallers
+choice_at (AtCallers object) = CCallers (most_callers object)
 choice_at (InRound object callers None) = Silent callers
 choice_at (InRound object callers (Some caller)) = Spoken (kind_of object) callers
 
@@ -147,7 +148,7 @@ least (BagSegments locales) = 1
 least (BagRoom locales segments) = 1
 least DequeLocales = 1
 least (DequeCapacity locales) = 1
-least SCallers = 1
+least (SCallers limit) = 1
 least slot = 0
 
 -- the greatest number of a slot that leaves the slots behind it one
@@ -160,7 +161,7 @@ most (BagSegments locales) = 64
 most (BagRoom locales segments) = 2 ^ 24
 most DequeLocales = 16
 most (DequeCapacity locales) = 2 ^ 24
-most SCallers = 1
+most (SCallers limit) = limit
 most (SCaller callers) = callers - 1
 most slot = 2 ^ 64 - 1
 
@@ -179,7 +180,7 @@ number_after (BagSegments locales) number = Number (BagRoom locales number)
 number_after (BagRoom locales segments) number = Nothing (ObjectIs (ABag locales segments number))
 number_after DequeLocales number = Number (DequeCapacity number)
 number_after (DequeCapacity locales) number = Nothing (ObjectIs (ADeque locales number))
-number_after SCallers number = Nothing (CallersAre number)
+number_after (SCallers limit) number = Nothing (CallersAre number)
 number_after (SCaller callers) number = Nothing (CallerIs number)
 number_after ReadAt number = Nothing (CallLine (OfList (ReadCall number)))
 number_after WriteAt number = Number (WriteValue number)
@@ -198,10 +199,12 @@ number_after (SPushFront once) number = Nothing (CallLine (OfDeque (PushFrontCal
 abbrev pub IsSlot : Slot → Type 0
 IsSlot (ListObjects locales) = (1 ≤ locales) × (locales ≤ 16)
 IsSlot (ListWidth locales objects) = (1 ≤ locales) × (locales ≤ 16) × (2 ≤ objects) × (locales * objects * 4 ≤ 2 ^ 25)
+IsSlot (SCallers limit) = 1 ≤ limit
 IsSlot (SCaller callers) = 1 ≤ callers
 IsSlot slot = Unit {0}
 
 abbrev pub IsChoice : Choice → Type 0
+IsChoice (CCallers limit) = 1 ≤ limit
 IsChoice (Silent callers) = 1 ≤ callers
 IsChoice (Spoken kind callers) = 1 ≤ callers
 IsChoice (CTry KList) = ⊥

@@ -68,9 +68,14 @@ IsObject (AList locales objects width) = IsShape (record { locales = locales; to
 IsObject (ABag locales segments room) = (1 ≤ locales) × (locales ≤ 16) × (1 ≤ segments) × (segments ≤ 64) × (1 ≤ room) × (room ≤ 2 ^ 24)
 IsObject (ADeque locales capacity) = (1 ≤ locales) × (locales ≤ 16) × (1 ≤ capacity) × (capacity ≤ 2 ^ 24)
 
--- one caller, as long as no object is shared
-abbrev pub IsCallers : ℕ → Type 0
-IsCallers callers = (1 ≤ callers) × (callers ≤ 1)
+-- the most callers of an object: a deque is shared
+abbrev pub most_callers : ObjectLine → ℕ
+most_callers (AList locales objects width) = 1
+most_callers (ABag locales segments room) = 1
+most_callers (ADeque locales capacity) = 64
+
+abbrev pub IsCallers : ObjectLine → ℕ → Type 0
+IsCallers object callers = (1 ≤ callers) × (callers ≤ most_callers object)
 
 -- the call is one of this object
 abbrev pub IsOfObject : ObjectLine → Call → Type 0
@@ -102,7 +107,7 @@ pub record IsCallOf (object : ObjectLine) (callers : ℕ) (call : Call) : Type 0
 abbrev pub MayCome : Stage → Line → Type 0
 MayCome AtPgas Pgas = Unit {0}
 MayCome AtObject (Object object) = IsObject object
-MayCome (AtCallers object) (Callers callers) = IsCallers callers
+MayCome (AtCallers object) (Callers callers) = IsCallers object callers
 MayCome (InRound object callers caller) (Caller next) = next < callers
 MayCome (InRound object callers caller) Round = Unit {0}
 MayCome (InRound object callers caller) End = Unit {0}

@@ -1,5 +1,5 @@
 -- What a reading of a source promises.
-use Rattle.std.specs.Prelude.{◌≡◌, ℕ, ◌≤◌, ◌^◌, List, ◌++◌, length, Option, Result, MatchResult}
+use Rattle.std.specs.Prelude.{◌≡◌, ℕ, ◌≤◌, ◌^◌, List, ◌++◌, length, Option, Result, Err, MatchResult}
 use Rattle.std.specs.Io.KnownBytes.{Consumes, IsAtEnd}
 use Rattle.shared_io.specs.Counts.{Rose}
 use Rattle.script_text.specs.declared.scripts.Script.{Script}
@@ -29,6 +29,8 @@ pub record Reading (left_before left_after : Option (List ℕ)) (faults_before f
   pub consumed : Consumes left_before left_after read
   pub asked : WasAskedFor read
   pub count : faults_before ≤ faults_after
+  -- no failed read is passed over
+  pub steady : (answer ≡ Err ReadFault → ⊥) → faults_after ≡ faults_before
   pub means : MatchResult answer (λ script. HasScript read (IsAtEnd left_after) (plain_script script)) (HasCause read (IsAtEnd left_after) (Rose faults_before faults_after))
 
 -- The answers that may come in place of the script.

@@ -78,7 +78,7 @@ counted_lines rounds = sum_by (sum_by length) rounds + (length rounds - 1)
 -- the last line doesn't count among the bytes.
 pub record IsValid (script : PlainScript) : Type 0 where
   pub object : IsObject script.object
-  pub callers : IsCallers script.callers
+  pub callers : IsCallers script.object script.callers
   pub some : 0 < length script.rounds
   pub rounds : All (IsRoundOf script.object script.callers) script.rounds
   pub few : counted_lines script.rounds ≤ 2 ^ 20

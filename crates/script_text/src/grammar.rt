@@ -1,12 +1,13 @@
 ghost use Rattle.std.specs.Prelude.{◌≡◌, ◌<◌};
 ghost use Rattle.script_text.specs.Grammar.{text, words, spoken_words, tried_words, list_word, bag_word, deque_word, try_word, round_word, spoken_word, tried_word, word_after, choice_at, least, most, AreBounds, InRange, IsSlot, number_after, kind_of};
+ghost use Rattle.script_text.specs.Lines.{most_callers};
 
 use crate::lines::{Line, Stage};
 use crate::scripts::{Call, ObjectLine};
 use seq_objects::{BagCall, DequeCall, ListCall};
 
-/// The most callers of a script.
-pub const MOST_CALLERS: u64 = 1;
+/// The most callers of a shared object.
+const MOST_CALLERS: u32 = 64;
 
 /// A kind of object.
 #[derive(Clone, Copy, Debug, PartialEq, Eq)]
@@ -50,7 +51,8 @@ pub enum Choice {
     One,
     Object,
     Kind,
-    Callers,
+    /// What stands before the number of callers, of which there are at most so many.
+    Callers { limit: u32 },
     /// What begins a line of a round before its first `caller` line.
     Silent { callers: u32 },
     /// What begins a line of a round behind a `caller` line.
@@ -70,7 +72,7 @@ pub enum Slot {
     BagRoom { locales: u8, segments: u32 },
     DequeLocales,
     DequeCapacity { locales: u8 },
-    Callers,
+    Callers { limit: u32 },
     Caller { callers: u32 },
     ReadAt,
     WriteAt,
@@ -143,7 +145,7 @@ impl Choice {
             Choice::One => &[Word::One],
             Choice::Object => &[Word::Object],
             Choice::Kind => &[Word::List, Word::Bag, Word::Deque],
-            Choice::Callers => &[Word::Callers],
+            Choice::Callers { .. } => &[Word::Callers],
             Choice::Silent { .. } => &[Word::Caller, Word::Round, Word::End],
             Choice::Spoken { kind, .. } => kind.spoken_words(),
             Choice::Try { kind } => kind.tried_words(),
@@ -162,7 +164,9 @@ impl Choice {
             (Choice::Kind, Word::List) => Some(one_number(Slot::ListLocales)),
             (Choice::Kind, Word::Bag) => Some(one_number(Slot::BagLocales)),
             (Choice::Kind, Word::Deque) => Some(one_number(Slot::DequeLocales)),
-            (Choice::Callers, Word::Callers) => Some(one_number(Slot::Callers)),
+            (Choice::Callers { limit }, Word::Callers) => {
+                Some(one_number(Slot::Callers { limit }))
+            }
             (Choice::Silent { callers }, _) => round_word(callers, word),
             (Choice::Spoken { kind, callers }, _) => kind.spoken_word(callers, word),
             (Choice::Try { kind }, _) => kind.tried_word(word),
@@ -435,6 +439,16 @@ impl ObjectLine {
             ObjectLine::Deque { .. } => Kind::Deque,
         }
     }
+
+    /// The most callers: many share a deque, a list or a bag has one.
+    fn most_callers(self) -> u32
+        ensures { result ≡ most_callers self }
+    {
+        match self {
+            ObjectLine::List { .. } | ObjectLine::Bag { .. } => 1,
+            ObjectLine::Deque { .. } => MOST_CALLERS,
+        }
+    }
 }
 
 impl Stage {
@@ -445,7 +459,9 @@ impl Stage {
         match self {
             Stage::AtPgas => Choice::Pgas,
             Stage::AtObject => Choice::Object,
-            Stage::AtCallers { .. } => Choice::Callers,
+            Stage::AtCallers { object } => Choice::Callers {
+                limit: object.most_callers(),
+            },
             Stage::InRound {
                 callers,
                 caller: None,
@@ -476,7 +492,7 @@ impl Slot {
             | Slot::BagRoom { .. }
             | Slot::DequeLocales
             | Slot::DequeCapacity { .. }
-            | Slot::Callers => 1,
+            | Slot::Callers { .. } => 1,
             _ => 0,
         }
     }
@@ -494,7 +510,7 @@ impl Slot {
             }
             Slot::BagSegments { .. } => 64,
             Slot::BagRoom { .. } | Slot::DequeCapacity { .. } => 0x100_0000,
-            Slot::Callers => MOST_CALLERS,
+            Slot::Callers { limit } => u64::from(limit),
             Slot::Caller { callers } => u64::from(callers) - 1,
             _ => u64::MAX,
         }
@@ -527,7 +543,7 @@ impl Slot {
             Slot::BagRoom { locales, segments } => bag_line(locales, segments, number as u32),
             Slot::DequeLocales => deque_capacity(number as u8),
             Slot::DequeCapacity { locales } => deque_line(locales, number as u32),
-            Slot::Callers => nothing(Line::Callers {
+            Slot::Callers { .. } => nothing(Line::Callers {
                 callers: number as u32,
             }),
             Slot::Caller { .. } => nothing(Line::Caller {

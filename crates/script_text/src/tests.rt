@@ -24,7 +24,7 @@ fn bad(line: u64) -> ScriptFault {
 }
 
 // Texts that are refused, and at which line: something is wrong of each line of the grammar.
-const REFUSED: [(&[u8], u64); 50] = [
+const REFUSED: [(&[u8], u64); 54] = [
     (b"", 1),
     (b"\n", 2),
     (b"# c", 1),
@@ -55,7 +55,11 @@ const REFUSED: [(&[u8], u64); 50] = [
     (b"pgas 1\nobject deque 1 16777217", 2),
     (b"pgas 1\nobject deque 1\n", 2),
     (b"pgas 1\nobject deque 1 1\ncallers 0\n", 3),
-    (b"pgas 1\nobject deque 1 1\ncallers 2", 3),
+    (b"pgas 1\nobject deque 1 1\ncallers 65", 3),
+    (b"pgas 1\nobject list 1 2 2\ncallers 2", 3),
+    (b"pgas 1\nobject bag 1 1 1\ncallers 2", 3),
+    (b"pgas 1\nobject deque 1 1\ncallers 2\ncaller 2", 4),
+    (b"pgas 1\nobject deque 1 1\ncallers 2\ncaller 0\ntry", 5),
     (b"pgas 1\nobject deque 1 1\ncallers 1\n", 4),
     (b"pgas 1\nobject deque 1 1\ncallers 1\npop_back", 4),
     (b"pgas 1\nobject deque 1 1\ncallers 1\ncaller 1", 4),
@@ -182,11 +186,12 @@ fn writes_replies(rt: HostRuntime) -> Result<(), Fail> {
 // The written form of a script that is written so already is the same text.
 #[test]
 fn writes_what_it_reads(rt: HostRuntime) -> Result<(), Fail> {
-    let rows: [&[u8]; 4] = [
+    let rows: [&[u8]; 5] = [
         ROW,
         b"pgas 1\nobject list 1 4 2\ncallers 1\ncaller 0\nwrite 1 7\ngrow 3\nread 1\nread 3\nread 4\ngrow 5\nswap 0 0 9\nswap 0 0 8\nadd 0 18446744073709551615\nend\n",
         b"pgas 1\nobject bag 1 1 2\ncallers 1\ncaller 0\nadd 5\nadd 6\nadd 7\ntry remove\nround\nround\ncaller 0\ntry add 1\nremove\nend\n",
         b"pgas 1\nobject deque 16 16777216\ncallers 1\nend\n",
+        b"pgas 1\nobject deque 2 4\ncallers 64\ncaller 0\npush_back 1\ncaller 63\npop_front\nround\ncaller 63\npush_front 2\nend\n",
     ];
     for text in rows {
         let script = read(rt.alloc(), text)?;

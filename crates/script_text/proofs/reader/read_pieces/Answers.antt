@@ -47,7 +47,7 @@ returns-then-count-eq0 g c =
     let left_after = g.S.Source.left c.read.new.self in
     let into = c.read.new.into in
     let room : 0 < length into = omega (arith, c.min.ensures, c.read.auto.into, length-take c.min.result c.deref_mut.result.now, c.deref_mut.ensures.len, c.loop-draft.invariant.buffer) in
-    reading_ended c.loop-draft.invariant.come c.loop-draft.invariant.standing _ _ c.in_ok-count.ensures.count c.at_end.result
+    reading_ended c.loop-draft.invariant.come c.loop-draft.invariant.standing _ _ c.in_ok-count.ensures.kept c.at_end.result
     (subst (λ n. Consumes left_now left_after (take n into)) c.if-count-eq0.true c.in_ok-count.ensures.bytes.0)
     (c.in_ok-count.ensures.bytes.1 c.if-count-eq0.true room) c.at_end.ensures
 
@@ -68,7 +68,7 @@ returns-in_err-next g c =
     let come = c.loop-draft.invariant.come in
     let piece = take c.in_ok-count.count c.read.new.into in
     let bounded : length piece ≤ 2 ^ 16 = omega (arith, c.in_ok-count.ensures.bound, c.min.ensures, c.read.auto.into, length-take c.min.result c.deref_mut.result.now, c.deref_mut.ensures.len, c.loop-draft.invariant.buffer) in
-    rw (p.1, p.2) (reading_stopped come c.loop-draft.invariant.standing _ _ c.in_ok-count.ensures.count piece c.in_ok-count.ensures.bytes.0 bounded _ (c.in_err-next.ensures.led come.read come.stands))
+    rw (p.1, p.2) (reading_stopped come c.loop-draft.invariant.standing _ _ c.in_ok-count.ensures.kept piece c.in_ok-count.ensures.bytes.0 bounded _ (c.in_err-next.ensures.led come.read come.stands))
 
 pub finish-requires : goal.finish-requires
 finish-requires g c =
@@ -83,7 +83,7 @@ returns-in-End g c =
     let piece = take c.in_ok-count.count c.read.new.into in
     let bounded : length piece ≤ 2 ^ 16 = omega (arith, c.in_ok-count.ensures.bound, c.min.ensures, c.read.auto.into, length-take c.min.result c.deref_mut.result.now, c.deref_mut.ensures.len, c.loop-draft.invariant.buffer) in
     let ends = subst (λ (r : Reached). HasReachedBehind come.read piece (2 ^ 30 - c.loop-draft.total) c.take_piece.new.draft r) c.in-End.is (c.in_ok-next.ensures.led come.read come.stands) in
-    reading_done come c.loop-draft.invariant.standing _ _ c.in_ok-count.ensures.count piece c.in_ok-count.ensures.bytes.0 bounded c.take_piece.new.draft c.finish.result ends c.finish.ensures
+    reading_done come c.loop-draft.invariant.standing _ _ c.in_ok-count.ensures.kept piece c.in_ok-count.ensures.bytes.0 bounded c.take_piece.new.draft c.finish.result ends c.finish.ensures
 
 pub loop-draft-preserved : goal.loop-draft-preserved
 loop-draft-preserved g c =
@@ -93,7 +93,7 @@ loop-draft-preserved g c =
     record {
       buffer = c.loop-draft.invariant.buffer;
       standing = subst (λ (r : Reached). StaysStanding c.take_piece.new.draft r) c.in-Within.is c.in_ok-next.ensures.standing;
-      come = rw c.in_ok-count.ensures.bound.1 (come_piece come c.loop-draft.invariant.standing _ _ c.in_ok-count.ensures.count piece c.take_piece.new.draft c.in-Within.next c.in_ok-count.ensures.bytes.0 led c.in_ok-next.ensures.lines);
+      come = rw c.in_ok-count.ensures.bound.1 (come_piece come c.loop-draft.invariant.standing _ _ c.in_ok-count.ensures.kept piece c.take_piece.new.draft c.in-Within.next c.in_ok-count.ensures.bytes.0 led c.in_ok-next.ensures.lines);
     }
 
 pub loop-draft-smaller : goal.loop-draft-smaller

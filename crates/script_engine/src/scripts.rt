@@ -1,0 +1,56 @@
+//! Scripts, whole.
+ghost use Rattle.std.specs.Prelude.{◌≡◌, IfOk};
+ghost use Rattle.script_engine.specs.Answers.{IsAnswer};
+ghost use Rattle.script_engine.specs.Runs.{HaveAnswered};
+ghost use Rattle.script_engine.specs.Says.{SaysDeque};
+ghost use Rattle.script_text.specs.Scripts.{plain_script, plain_round, IsValid};
+
+use crate::alone::run_alone;
+use crate::many::run_shared;
+use script_text::{ObjectLine, Replies, Script};
+use seq_objects::AnyItem;
+use shared_deque::{Deque, DequeFault};
+use shared_io::Gate;
+use std::alloc::{AllocError, Global};
+use std::sync::Wait;
+use std::thread::Threads;
+
+/// Runs a script, and answers the replies and what is left. A deque is shared: in each round every caller with
+/// calls makes them in a thread of its own, and behind each round every caller learns what all have done. A
+/// list or a bag has one caller, and runs as in `run_alone`. An error is want of memory.
+pub fn run_script<R: Threads + Wait + Sync, G: Gate>(
+    rt: &R,
+    alloc: Global,
+    script: &Script,
+    gate: &G,
+) -> Result<Replies, AllocError>
+    requires { IsValid (plain_script script.now) }
+    ensures answer { IfOk result (λ replies. IsAnswer (plain_script script.now) replies) }
+{
+    match script.object {
+        ObjectLine::Deque { locales, capacity } => {
+            run_on_deque(rt, alloc, script, locales, capacity, gate)
+        }
+        _ => run_alone(alloc, script),
+    }
+}
+
+fn run_on_deque<R: Threads + Wait + Sync, G: Gate>(
+    rt: &R,
+    alloc: Global,
+    script: &Script,
+    locales: u8,
+    capacity: u32,
+    gate: &G,
+) -> Result<Replies, AllocError>
+    requires valid { IsValid (plain_script script.now) }
+    requires object { script.now.object ≡ ObjectLine.Deque locales capacity }
+    ensures answer { IfOk result (λ replies. IsAnswer (plain_script script.now) replies) }
+{
+    match Deque::open(alloc, locales, capacity, script.callers, AnyItem) {
+        Ok((deque, passes)) => {
+            run_shared(rt, alloc, deque, passes, script.rounds.as_slice(), gate)
+        }
+        Err(_) => Err(AllocError),
+    }
+}
