@@ -1,6 +1,11 @@
 pub mod Lists
+pub mod MadeLists
+pub mod MadeReadBack
 pub mod MadeTexts
 pub mod Offers
+pub mod OptionLemmas
+pub mod Outcomes
 pub mod ReachedFrom
 pub mod Runs
 pub mod WholeInputs
+pub mod WordLemmas

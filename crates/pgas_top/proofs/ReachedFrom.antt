@@ -1,7 +1,6 @@
 use Rattle.std.proofs.Common.{◌≡◌, ℕ, zero, suc, ◌+◌, ◌<◌, ◌≤◌, ◌==◌, Bool, true, false, cond, List, [], ◌∷◌, Option, Some, None, refl, sym, ap, ◌∙◌, arith, subst, MatchOption, MatchBool}
 use Rattle.std.specs.List.{slice_get}
 use Rattle.std.proofs.lemmas.Option.{slice_get-get_or, slice_get_within, get_or_from_slice_get}
-use Rattle.edge_text.specs.declared.edges.Edge.{Edge}
 use Rattle.levels_engine.specs.Levels.{IsLevel, HasNoLevel, IsLevelNumber}
 use Rattle.levels_engine.specs.declared.plain_levels.TheConstants.{NOT_REACHED}
 use Rattle.pgas_top.specs.LevelsText.{Reached, Rises, AreReached, reached_from}
@@ -83,38 +82,38 @@ rises_from vertex [] = tt
 rises_from vertex (number ∷ numbers) = rises_step (number == NOT_REACHED) vertex number (reached_from (vertex + 1) numbers) (follows vertex (vertex + 1) numbers (omega arith)) (rises_from (vertex + 1) numbers)
 
 -- a number that isn't the mark says the level
-level_said : (mark : Bool) (edges : List Edge) (source vertex level : ℕ) → (level == NOT_REACHED) ≡ mark → mark ≡ false → IsLevelNumber edges source vertex level → IsLevel edges source vertex level
-level_said mark edges source vertex level is none said =
-    let P : Bool → Type 0 = λ b. MatchBool b (HasNoLevel edges source vertex) (IsLevel edges source vertex level) in
+level_said : (mark : Bool) (Leads : ℕ → ℕ → Type 0) (sources : List ℕ) (vertex level : ℕ) → (level == NOT_REACHED) ≡ mark → mark ≡ false → IsLevelNumber Leads sources vertex level → IsLevel Leads sources vertex level
+level_said mark Leads sources vertex level is none said =
+    let P : Bool → Type 0 = λ b. MatchBool b (HasNoLevel Leads sources vertex) (IsLevel Leads sources vertex level) in
     subst P (is ∙ none) said
 
-said_step : (mark : Bool) (edges : List Edge) (source vertex level number : ℕ) → (number == NOT_REACHED) ≡ mark → IsLevel edges source vertex level → MatchBool mark (HasNoLevel edges source vertex) (IsLevel edges source vertex number) → (Some number ≡ Some level) × ((level == NOT_REACHED) ≡ false)
-said_step true edges source vertex level number none is said = absurd (said level is.reached.0 is.reached.1)
-said_step false edges source vertex level number some is said =
+said_step : (mark : Bool) (Leads : ℕ → ℕ → Type 0) (sources : List ℕ) (vertex level number : ℕ) → (number == NOT_REACHED) ≡ mark → IsLevel Leads sources vertex level → MatchBool mark (HasNoLevel Leads sources vertex) (IsLevel Leads sources vertex number) → (Some number ≡ Some level) × ((level == NOT_REACHED) ≡ false)
+said_step true Leads sources vertex level number none is said = absurd (said level is.reached.0 is.reached.1)
+said_step false Leads sources vertex level number some is said =
     let up : number ≤ level = said.least level is.reached.0 is.reached.1 in
     let down : level ≤ number = is.least number said.reached.0 said.reached.1 in
     let same : number ≡ level = omega arith in
     (ap Some same, ap (λ (n : ℕ). n == NOT_REACHED) (sym same) ∙ some)
 
 -- a vertex with a level has it for its number
-number_said : (edges : List Edge) (source vertex level : ℕ) (number : Option ℕ) → IsLevel edges source vertex level → MatchOption number (HasNoLevel edges source vertex) (IsLevelNumber edges source vertex) → (number ≡ Some level) × ((level == NOT_REACHED) ≡ false)
-number_said edges source vertex level None is said = absurd (said level is.reached.0 is.reached.1)
-number_said edges source vertex level (Some number) is said = said_step (number == NOT_REACHED) edges source vertex level number refl is said
+number_said : (Leads : ℕ → ℕ → Type 0) (sources : List ℕ) (vertex level : ℕ) (number : Option ℕ) → IsLevel Leads sources vertex level → MatchOption number (HasNoLevel Leads sources vertex) (IsLevelNumber Leads sources vertex) → (number ≡ Some level) × ((level == NOT_REACHED) ≡ false)
+number_said Leads sources vertex level None is said = absurd (said level is.reached.0 is.reached.1)
+number_said Leads sources vertex level (Some number) is said = said_step (number == NOT_REACHED) Leads sources vertex level number refl is said
 
 -- the numbers of all vertices list those that have a level
-pub are_reached : (edges : List Edge) (source : ℕ) (numbers : List ℕ) → ((vertex : ℕ) → MatchOption (slice_get numbers vertex) (HasNoLevel edges source vertex) (IsLevelNumber edges source vertex)) → AreReached edges source (reached_from 0 numbers)
-are_reached edges source numbers said = record {
+pub are_reached : (Leads : ℕ → ℕ → Type 0) (sources : List ℕ) (numbers : List ℕ) → ((vertex : ℕ) → MatchOption (slice_get numbers vertex) (HasNoLevel Leads sources vertex) (IsLevelNumber Leads sources vertex)) → AreReached Leads sources (reached_from 0 numbers)
+are_reached Leads sources numbers said = record {
   rises = rises_from 0 numbers;
   each = λ vertex level c.
       let r : Reached = record { vertex = vertex; level = level } in
       let n = numbered 0 numbers c.0 r (slice_get-get_or (reached_from 0 numbers) c.0 r c.1 ∙ ap Some c.2) in
       let here : n.place ≡ vertex = omega (arith, n.id) in
-      let P : Option ℕ → Type 0 = λ o. MatchOption o (HasNoLevel edges source n.place) (IsLevelNumber edges source n.place) in
-      let Q : ℕ → Type 0 = λ v. IsLevel edges source v level in
-      subst Q here (level_said false edges source n.place level n.level refl (subst P n.number (said n.place)));
+      let P : Option ℕ → Type 0 = λ o. MatchOption o (HasNoLevel Leads sources n.place) (IsLevelNumber Leads sources n.place) in
+      let Q : ℕ → Type 0 = λ v. IsLevel Leads sources v level in
+      subst Q here (level_said false Leads sources n.place level n.level refl (subst P n.number (said n.place)));
   all = λ vertex level is.
       let r : Reached = record { vertex = vertex; level = level } in
-      let n = number_said edges source vertex level (slice_get numbers vertex) is (said vertex) in
+      let n = number_said Leads sources vertex level (slice_get numbers vertex) is (said vertex) in
       let k = listed 0 numbers vertex level n.0 n.1 in
       let here : 0 + vertex ≡ vertex = omega arith in
       let there : slice_get (reached_from 0 numbers) k.0 ≡ Some r = k.1 ∙ ap (λ (v : ℕ). Some (record { vertex = v; level = level })) here in

@@ -1,50 +1,40 @@
 -- What a status says of the whole input, where the source tells it.
-use Rattle.std.proofs.Common.{◌≡◌, ◌⊎◌, ℕ, List, [], ◌++◌, Option, None, Some, refl, sym, ap, inl, inr, ◌∙◌, subst, append_assoc, append-nil}
+use Rattle.std.proofs.Common.{◌≡◌, ◌⊎◌, ℕ, List, [], ◌++◌, Option, None, Some, refl, sym, ap, inl, inr, ◌∙◌, subst, append-nil}
 use Rattle.std.specs.Io.KnownBytes.{Consumes, IsAtEnd}
-use Rattle.edge_text.specs.EdgeText.{IsEdgeText, IsNoText, CanGoOn}
+use Rattle.edge_text.proofs.Readings.{refusal_of_input as edges_of_input}
+use Rattle.edge_text.specs.EdgeText.{IsEdgeText}
+use Rattle.line_text.specs.declared.faults.TextFault.TheVariants.{BadLine as BadEdges, TooLarge as TooLargeEdges}
 use Rattle.script_text.proofs.WholeInputs.{script_of_input, refusal_of_input}
 use Rattle.script_text.specs.declared.faults.ScriptFault.TheVariants.{BadLine, TooLarge as TooLargeScript}
 use Rattle.shared_io.specs.declared.limits.TooKind.{TooKind}
 use Rattle.pgas_top.specs.Devices.{SourceChange, SinkChange, SourceFailed}
 use Rattle.pgas_top.specs.Outcome.{Accepts, Completes, Refuses, Exceeds, Rejects, Ends}
-use Rattle.pgas_top.specs.declared.commands.Command.{Command}
-use Rattle.pgas_top.specs.declared.commands.Command.TheVariants.{Plain, Run}
+use Rattle.pgas_top.specs.Commands.{Request, Plain, Run, Make}
 use Rattle.pgas_top.specs.declared.statuses.Status.{Status}
 use Rattle.pgas_top.specs.declared.statuses.Status.TheVariants.{Done, BadWords, BadInput, ReadFault, WriteFault, OutOfMemory, TooLarge}
 
 -- what was read completes the command, so the input is accepted
-accepts_whole : (command : Command) (input read rest text : List ℕ) → input ≡ read ++ rest → Completes command read (rest ≡ []) text → Accepts command input
-accepts_whole (Plain vertex) input read rest text parts is =
+accepts_whole : (command : Request) (input read rest text : List ℕ) → input ≡ read ++ rest → Completes command read (rest ≡ []) text → Accepts command (Some input)
+accepts_whole (Plain sources) input read rest text parts is =
     let whole : input ≡ read = parts ∙ (ap (λ (r : List ℕ). read ++ r) is.0 ∙ append-nil read) in
-    (is.1.0, subst (λ (l : List ℕ). IsEdgeText l is.1.0) (sym whole) is.1.1)
-accepts_whole Run input read rest text parts is = (is.0, script_of_input input read rest is.0 parts is.1)
+    (input, refl, (is.1.0, subst (λ (l : List ℕ). IsEdgeText l is.1.0) (sym whole) is.1.1))
+accepts_whole Run input read rest text parts is = (input, refl, (is.0, script_of_input input read rest is.0 parts is.1))
+accepts_whole (Make seed vertices edges) input read rest text parts is = tt
 
 -- what was read is refused, so the input is
-refuses_whole : (command : Command) (input read rest : List ℕ) (line : ℕ) → input ≡ read ++ rest → Refuses command read (rest ≡ []) line → Refuses command input (Unit {0}) line
-refuses_whole (Plain vertex) input read rest line parts is = record {
-  lines = is.lines;
-  before = is.before;
-  bad = is.bad;
-  rest = is.rest ++ rest;
-  parts = parts ∙ (ap (λ (r : List ℕ). r ++ rest) is.parts ∙ (append_assoc is.lines (is.bad ++ is.rest) rest ∙ ap (λ (r : List ℕ). is.lines ++ r) (append_assoc is.bad is.rest rest)));
-  sound = is.sound;
-  number = is.number;
-  within_line = is.within_line;
-  refused = by is.refused;
-}
-  where
-    by : (CanGoOn (is.lines ++ is.bad) → ⊥) ⊎ ((rest ≡ []) × (is.rest ≡ []) × IsNoText (is.lines ++ is.bad)) → (CanGoOn (is.lines ++ is.bad) → ⊥) ⊎ (Unit {0} × (is.rest ++ rest ≡ []) × IsNoText (is.lines ++ is.bad))
-    by (inl cut) = inl cut
-    by (inr at) = inr (tt, ap (λ (r : List ℕ). r ++ rest) at.1 ∙ at.0, at.2)
+refuses_whole : (command : Request) (input read rest : List ℕ) (line : ℕ) → input ≡ read ++ rest → Refuses command read (rest ≡ []) line → Refuses command input (Unit {0}) line
+refuses_whole (Plain sources) input read rest line parts is = edges_of_input input read rest (BadEdges line) parts is
 refuses_whole Run input read rest line parts is = refusal_of_input input read rest (BadLine line) parts is
+refuses_whole (Make seed vertices edges) input read rest line parts is = is
 
-exceeds_whole : (command : Command) (input read rest : List ℕ) (kind : TooKind) (line : ℕ) → input ≡ read ++ rest → Exceeds command read (rest ≡ []) kind line → Exceeds command input (Unit {0}) kind line
-exceeds_whole (Plain vertex) input read rest kind line parts is = is
+exceeds_whole : (command : Request) (input read rest : List ℕ) (kind : TooKind) (line : ℕ) → input ≡ read ++ rest → Exceeds command read (rest ≡ []) kind line → Exceeds command input (Unit {0}) kind line
+exceeds_whole (Plain sources) input read rest kind line parts is = edges_of_input input read rest (TooLargeEdges kind line) parts is
 exceeds_whole Run input read rest kind line parts is = refusal_of_input input read rest (TooLargeScript kind line) parts is
+exceeds_whole (Make seed vertices edges) input read rest kind line parts is = is
 
-module _ (command : Command) (source : SourceChange) (sink : SinkChange) (read written input : List ℕ) (isnt : Accepts command input → ⊥) (steady : SourceFailed source → ⊥) where
+module _ (command : Request) (source : SourceChange) (sink : SinkChange) (read written input : List ℕ) (isnt : Accepts command (Some input) → ⊥) (steady : SourceFailed source → ⊥) where
   by_status : (rest : List ℕ) (status : Status) → input ≡ read ++ rest → source.left_after ≡ Some rest → Ends command source sink read written status → (status ≡ OutOfMemory) ⊎ Rejects command input status
-  by_status rest Done parts left ends = absurd (isnt (accepts_whole command input read rest written parts (subst (λ (l : Option (List ℕ)). Completes command read (IsAtEnd l) written) left ends)))
+  by_status rest Done parts left ends = absurd (isnt (accepts_whole command input read rest written parts (subst (λ (l : Option (List ℕ)). Completes command read (IsAtEnd l) written) left ends.0)))
   by_status rest BadWords parts left ends = absurd ends
   by_status rest (BadInput line) parts left ends = inr (refuses_whole command input read rest line parts (subst (λ (l : Option (List ℕ)). Refuses command read (IsAtEnd l) line) left ends.0))
   by_status rest (TooLarge kind line) parts left ends = inr (exceeds_whole command input read rest kind line parts (subst (λ (l : Option (List ℕ)). Exceeds command read (IsAtEnd l) kind line) left ends.0))
@@ -58,7 +48,7 @@ module _ (command : Command) (source : SourceChange) (sink : SinkChange) (read w
   by_left (Some rest) status left consumed ends = by_status rest status consumed left ends
 
 -- the end of a run of an input that isn't accepted
-pub refused : (command : Command) (source : SourceChange) (sink : SinkChange) (read written : List ℕ) (status : Status) → Consumes source.left_before source.left_after read → Ends command source sink read written status
-    → (input : List ℕ) → source.left_before ≡ Some input → (Accepts command input → ⊥) → (SourceFailed source → ⊥) → (status ≡ OutOfMemory) ⊎ Rejects command input status
+pub refused : (command : Request) (source : SourceChange) (sink : SinkChange) (read written : List ℕ) (status : Status) → Consumes source.left_before source.left_after read → Ends command source sink read written status
+    → (input : List ℕ) → source.left_before ≡ Some input → (Accepts command (Some input) → ⊥) → (SourceFailed source → ⊥) → (status ≡ OutOfMemory) ⊎ Rejects command input status
 refused command source sink read written status consumed ends input told isnt steady =
     by_left command source sink read written input isnt steady source.left_after status refl (subst (λ (l : Option (List ℕ)). Consumes l source.left_after read) told consumed) ends

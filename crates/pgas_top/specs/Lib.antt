@@ -1,4 +1,7 @@
 pub use Rattle.edge_text.specs.EdgeText
+pub use Rattle.edge_text.specs.Edges
+pub use Rattle.line_text.specs.Readings
+pub use Rattle.line_text.specs.Texts
 pub use Rattle.levels_engine.specs.Levels
 pub use Rattle.levels_engine.specs.Walks
 pub use Rattle.script_engine.specs.Answers
@@ -11,5 +14,6 @@ pub mod Commands
 pub mod Devices
 pub mod LevelsText
 pub mod MadeText
+pub mod Options
 pub mod Outcome
 pub mod Statuses

@@ -1,12 +1,12 @@
 use Rattle.std.specs.Prelude.{◌≡◌, ℕ, ◌≤◌, List, [], ◌∷◌, ◌++◌, length, take, codes, ◌⊎◌}
 use Rattle.std.specs.Fmt.{decimal}
 use Rattle.std.specs.Io.KnownBytes.{Appends}
-use Rattle.edge_text.specs.declared.faults.EdgeFault.{EdgeFault}
-use Rattle.edge_text.specs.declared.faults.EdgeFault.TheVariants as edge
+use Rattle.line_text.specs.declared.faults.TextFault.{TextFault}
+use Rattle.line_text.specs.declared.faults.TextFault.TheVariants as text
 use Rattle.script_text.specs.declared.faults.ScriptFault.{ScriptFault}
 use Rattle.script_text.specs.declared.faults.ScriptFault.TheVariants as script
 use Rattle.shared_io.specs.declared.limits.TooKind.{TooKind}
-use Rattle.shared_io.specs.declared.limits.TooKind.TheVariants.{Id, Edges, Bytes, Calls}
+use Rattle.shared_io.specs.declared.limits.TooKind.TheVariants.{Id, Edges, Bytes, Weight, Calls, Steps}
 use Rattle.shared_io.specs.declared.sinks.SinkFault.{SinkFault}
 use Rattle.shared_io.specs.declared.sinks.SinkFault.TheVariants as sink
 use Rattle.pgas_top.specs.Devices.{SinkChange, SinkFailed, SinkRefused}
@@ -28,7 +28,9 @@ abbrev pub limit_name : TooKind → List ℕ
 limit_name Id = codes "id"
 limit_name Edges = codes "edges"
 limit_name Bytes = codes "bytes"
+limit_name Weight = codes "weight"
 limit_name Calls = codes "calls"
+limit_name Steps = codes "steps"
 
 -- the line on the sink for faults
 abbrev pub line_of : Status → List ℕ
@@ -45,13 +47,16 @@ pub record IsTold (faults : SinkChange) (line : List ℕ) : Type 0 where
   pub count : ℕ
   pub within : count ≤ length line
   pub taken : Appends faults.taken_before faults.taken_after (take count line)
+  pub fault_count : faults.faults_before ≤ faults.faults_after
+  pub refusal_count : faults.refusals_before ≤ faults.refusals_after
   pub whole : (count ≡ length line) ⊎ (SinkFailed faults ⊎ SinkRefused faults)
 
--- the status that a fault of the reader of edges comes out as
-abbrev pub edge_status : EdgeFault → Status
-edge_status (edge.BadLine line) = BadInput line
-edge_status edge.ReadFault = ReadFault
-edge_status edge.OutOfMemory = OutOfMemory
+-- the status that a fault of a reader of texts comes out as
+abbrev pub text_status : TextFault → Status
+text_status (text.BadLine line) = BadInput line
+text_status (text.TooLarge kind line) = TooLarge kind line
+text_status text.ReadFault = ReadFault
+text_status text.OutOfMemory = OutOfMemory
 
 -- the status that a fault of the reader of scripts comes out as
 abbrev pub script_status : ScriptFault → Status

@@ -6,14 +6,16 @@
 #![tactic(auto)]
 
 mod commands;
+mod laws;
 mod levels_text;
+mod made_lists;
 mod made_texts;
+mod options;
 mod program;
 mod statuses;
 #[cfg(test)]
 mod tests;
 
-pub use commands::{Command, command_of};
-pub use levels_text::write_levels;
+pub use laws::made_lists_read_back;
 pub use program::{run, run_plain};
 pub use statuses::{Status, report};

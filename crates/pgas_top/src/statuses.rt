@@ -1,11 +1,11 @@
 ghost use Rattle.std.specs.Prelude.{◌≡◌, ℕ, ◌≤◌, take, length};
 ghost use Rattle.std.specs.Io.KnownBytes.{Appends};
-ghost use Rattle.pgas_top.specs.Devices.{SinkChange};
+ghost use Rattle.pgas_top.specs.Devices.{sink_change};
 ghost use Rattle.pgas_top.specs.Statuses.{number_of, line_of, limit_name, IsTold};
 
 use arrayvec::ArrayString;
-use edge_text::EdgeFault;
 use itoa::Buffer;
+use line_text::TextFault;
 use script_text::ScriptFault;
 use shared_io::{Sink, SinkFault, TooKind, write_whole};
 use std::alloc::AllocError;
@@ -73,17 +73,18 @@ impl Status {
     }
 }
 
-impl From<EdgeFault> for Status {
+impl From<TextFault> for Status {
     ghost use Rattle.std.specs.Prelude.{◌≡◌};
-    ghost use Rattle.pgas_top.specs.Statuses.{edge_status};
+    ghost use Rattle.pgas_top.specs.Statuses.{text_status};
 
-    ghost from_gives = { λ fault status. status ≡ edge_status fault };
+    ghost from_gives = { λ fault status. status ≡ text_status fault };
 
-    fn from(fault: EdgeFault) -> Status {
+    fn from(fault: TextFault) -> Status {
         match fault {
-            EdgeFault::BadLine { line } => Status::BadInput { line },
-            EdgeFault::ReadFault => Status::ReadFault,
-            EdgeFault::OutOfMemory => Status::OutOfMemory,
+            TextFault::BadLine { line } => Status::BadInput { line },
+            TextFault::TooLarge { kind, line } => Status::TooLarge { kind, line },
+            TextFault::ReadFault => Status::ReadFault,
+            TextFault::OutOfMemory => Status::OutOfMemory,
         }
     }
 }
@@ -137,7 +138,9 @@ fn name_of(kind: TooKind) -> &'static str
         TooKind::Id => "id",
         TooKind::Edges => "edges",
         TooKind::Bytes => "bytes",
+        TooKind::Weight => "weight",
         TooKind::Calls => "calls",
+        TooKind::Steps => "steps",
     }
 }
 
@@ -145,14 +148,7 @@ fn name_of(kind: TooKind) -> &'static str
 /// the sink refuses a write: then a front of it stands there.
 pub fn report<F: Sink>(status: Status, faults: &mut F) -> Status
     ensures status { result ≡ status }
-    ensures told { IsTold (record {
-      taken_before = F.taken faults.old;
-      taken_after = F.taken faults.new;
-      faults_before = F.faults faults.old;
-      faults_after = F.faults faults.new;
-      refusals_before = F.refusals faults.old;
-      refusals_after = F.refusals faults.new;
-    }) (line_of status) }
+    ensures told { IsTold (sink_change F.taken F.faults F.refusals faults.old faults.new) (line_of status) }
 {
     let line = status.line();
     let _ = write_whole(faults, line.as_bytes());

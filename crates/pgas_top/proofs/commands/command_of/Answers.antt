@@ -1,22 +1,16 @@
-use Rattle.std.proofs.Common.{◌≡◌, List, [], ◌∷◌, codes, length, map, ap, ◌∙◌, arith, rules}
+use Rattle.std.proofs.Common.{ℕ, List, ◌∷◌, ap, sym, ◌∙◌, map}
 use Rattle.std.specs.String.{string_bytes}
-use Rattle.pgas_top.proofs.Lists.{one_of, two_of}
+use Rattle.pgas_top.proofs.Offers.{names_make, names_plain}
 use Rattle.pgas_top.proofs.commands.command_of.Goals as goal
 
-pub returns-in-len1 : goal.returns-in-len1
-returns-in-len1 c =
-    let len : length c.args.words.now ≡ 1 = omega (arith, c.in-len1) in
-    let run : string_bytes c.name-item.result ≡ codes "run" = search (rules, c.if-eq.ensures) in
-    ap (map string_bytes) (one_of _ _ len c.name-item.is) ∙ ap (λ (name : List _). name ∷ []) run
+pub returns-in-plain : goal.returns-in-plain
+returns-in-plain c =
+    let rest = map string_bytes c.in_ok-name.rest.now in
+    names_plain _ rest c.plain_command.result
+    (ap (map string_bytes) c.in_ok-name.ensures.cases.0 ∙ ap (λ (w : List ℕ). w ∷ rest) (sym c.as_str.ensures.value ∙ c.in-plain.is)) c.plain_command.ensures
 
-pub returns-in_ok-source-in-len2 : goal.returns-in_ok-source-in-len2
-returns-in_ok-source-in-len2 c =
-    let len : length c.args.words.now ≡ 2 = omega (arith, c.in-len2) in
-    let both = ap (map string_bytes) (two_of _ _ _ len c.name-item-then-words-lt3.is c.word-item.is) in
-    let plain : string_bytes c.name-item-then-words-lt3.result ≡ codes "plain" = search (rules, c.if-eq-2.ensures) in
-    let number = rw c.as_str-in-len2.ensures.value at c.in_ok-source-in-len2.ensures in (
-      string_bytes c.word-item.result,
-      both ∙ ap (λ (name : List _). name ∷ string_bytes c.word-item.result ∷ []) plain,
-      number.0,
-      omega (arith, number.1),
-    )
+pub returns-in-make : goal.returns-in-make
+returns-in-make c =
+    let rest = map string_bytes c.in_ok-name.rest.now in
+    names_make _ rest c.make_command.result
+    (ap (map string_bytes) c.in_ok-name.ensures.cases.0 ∙ ap (λ (w : List ℕ). w ∷ rest) (sym c.as_str.ensures.value ∙ c.in-make.is)) c.make_command.ensures

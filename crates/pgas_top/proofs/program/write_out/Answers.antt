@@ -18,7 +18,7 @@ returns-in-Ok g c =
     record {
       ran = λ command source made.
           ran_cut command source _ c.in-Ok.text front.0 c.in-Err-write_whole.fault c.from.result (subst (λ (r : Result (Vec ℕ Global) Status). IsMadeText command source r) c.in-Ok.is made)
-          front.2 wrote.faults wrote.refusals (λ failed. wrote.failed (ap Err failed)) c.from.ensures;
+          front.2 wrote.faults wrote.refusals (λ failed. wrote.failed (ap Err failed)) (λ wanted. wrote.memory (ap Err wanted)) c.from.ensures;
     }
 
 pub returns-in-Ok-write_whole : goal.returns-in-Ok-write_whole
@@ -27,5 +27,5 @@ returns-in-Ok-write_whole g c =
     let whole = rw c.as_slice.ensures.value at wrote.whole in
     record {
       ran = λ command source made.
-          ran_done command source _ c.in-Ok.text (subst (λ (r : Result (Vec ℕ Global) Status). IsMadeText command source r) c.in-Ok.is made) whole wrote.faults wrote.refusals;
+          ran_done command source _ c.in-Ok.text (subst (λ (r : Result (Vec ℕ Global) Status). IsMadeText command source r) c.in-Ok.is made) whole (record { faults = wrote.kept.0; refusals = wrote.kept.1 });
     }
