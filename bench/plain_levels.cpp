@@ -1,5 +1,5 @@
-// The yardstick of `pgas plain`: the same algorithm, a per-byte reader, one comparison sort and a search by rows,
-// written with the C++ library. `plain_levels make SEED VERTICES EDGES` prints a random edge list, and
+// The yardstick of `pgas plain`: the same result by a per-byte reader, one comparison sort and a search by rows, written
+// with the C++ library. `plain_levels make SEED VERTICES EDGES` prints a random edge list behind a few comment lines, and
 // `plain_levels SOURCE` prints the levels of the edge list on standard input.
 #include <algorithm>
 #include <charconv>
@@ -34,29 +34,35 @@ static bool write_all(const std::string &text) {
 static int make(std::uint64_t seed, std::uint32_t vertices, std::uint32_t edges) {
     std::mt19937_64 random(seed);
     std::uniform_int_distribution<std::uint32_t> vertex(0, vertices - 1);
-    std::string text;
+    std::string text = "# Directed graph\n# Nodes: ";
+    append(text, vertices);
+    text += " Edges: ";
+    append(text, edges);
+    text += "\n# FromNodeId\tToNodeId\n";
     for (std::uint32_t i = 0; i < edges; i++) {
         append(text, vertex(random));
-        text += ' ';
+        text += '\t';
         append(text, vertex(random));
         text += '\n';
     }
     return write_all(text) ? 0 : 5;
 }
 
-// One edge a line: a number, a space, a number and a line end.
+// One edge a line, a number, a tab, a number and a line end, behind comment lines.
 static bool read_edges(std::vector<Edge> &edges) {
     static unsigned char piece[65536];
-    enum { start, from, gap, to } place = start;
+    enum { start, from, gap, to, comment } place = start;
     std::uint32_t first = 0, number = 0;
     for (ssize_t count; (count = read(0, piece, sizeof piece)) > 0;) {
         for (ssize_t i = 0; i < count; i++) {
             const unsigned digit = piece[i] - unsigned{'0'};
-            if (digit < 10) {
+            if (place == comment) { if (piece[i] == '\n') place = start; }
+            else if (digit < 10) {
                 if (place == start || place == gap) { number = digit; place = place == start ? from : to; }
                 else if ((number = number * 10 + digit) > greatest_id) return false;
-            } else if (piece[i] == ' ' && place == from) { first = number; place = gap; }
+            } else if (piece[i] == '\t' && place == from) { first = number; place = gap; }
             else if (piece[i] == '\n' && place == to) { edges.emplace_back(first, number); place = start; }
+            else if (piece[i] == '#' && place == start) place = comment;
             else return false;
         }
     }
