@@ -60,7 +60,7 @@ module _ {Progress Form Line : Type 0} (T : Text Progress Form Line) where
     end_not_last said says last =
         end_refused (BadLine (place.lines + 1)) (λ may. false≢true (sym last ∙ (ap T.rules.may_be_last (same_said said may.0 says may.1) ∙ may.2))) (omega (arith, lines_at T read progress place stands))
 
-    pub end_fault : (said : Option Line) (fault : TextFault) → rest_says T.grammar place.state [] ≡ Ok said → T.rules.may_be_last said ≡ true → IsTakeFault T place said fault → IsFault T read (Unit {0}) fault
+    pub end_fault : (said : Option Line) (fault : TextFault) → rest_says T.grammar place.state [] ≡ Ok said → T.rules.may_be_last said ≡ true → IsTakeFault T place.lines place.counted said fault → IsFault T read (Unit {0}) fault
     end_fault said fault says last (inl memory) = subst (IsFault T read (Unit {0})) (sym memory) tt
     end_fault said fault says last (inr many) =
         let is = rest_at T read progress place stands [] ∙ says in

@@ -8,3 +8,6 @@ pub mod Inputs
 pub mod Sources
 pub mod Said
 pub mod Written
+pub mod Behind
+pub mod Kept
+pub mod WrittenWords

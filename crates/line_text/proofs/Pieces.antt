@@ -7,7 +7,7 @@ use Rattle.line_text.specs.declared.faults.TextFault.{TextFault}
 use Rattle.line_text.specs.declared.states.State.{State}
 use Rattle.line_text.specs.declared.states.State.TheVariants.{Lead}
 use Rattle.line_text.specs.Lines.{Grammar, IsGrammar, IsSaid, line_says}
-use Rattle.line_text.specs.Readings.{Stands, HasReached, HasTaken, IsTakeFault, IsFault}
+use Rattle.line_text.specs.Readings.{Stands, HasReached, HasTaken, IsTakeFault, IsFault, next_place}
 use Rattle.line_text.specs.Scans.{Goes, StandsLine}
 use Rattle.line_text.specs.States.{IsState, IsPlaced, Leads}
 use Rattle.line_text.specs.Texts.{Text, HasText}
@@ -57,30 +57,28 @@ module _ {Progress Form Line : Type 0} (T : Text Progress Form Line) where
   pub byte_fault : (read piece : List ℕ) (at : ℕ) (fault : TextFault) → at < length piece → IsFault T ((read ++ take at piece) ++ get_or piece at 0 ∷ []) ⊥ fault → IsFault T (read ++ piece) ⊥ fault
   byte_fault read piece at fault within refused = subst (λ (r : List ℕ). IsFault T r ⊥ fault) (whole_piece read piece at within) (fault_longer T ((read ++ take at piece) ++ get_or piece at 0 ∷ []) (drop (at + 1) piece) ⊥ fault refused)
 
-  -- ---- a line of numbers
+  -- ---- a line that stands at once
 
-  module _ (IsForm : Form → Type 0) (sound : IsGrammar T.grammar IsForm) (piece : List ℕ) (at : ℕ) (place : Place Form) (form : Form) (line : Line) (count : ℕ) (is : place.state ≡ Lead form)
+  module _ (IsForm : Form → Type 0) (sound : IsGrammar T.grammar IsForm) (piece : List ℕ) (at : ℕ) (form : Form) (lines counted : ℕ) (line : Line) (count : ℕ)
       (found : StandsLine T.grammar IsForm form (take (length piece - at) (drop at piece)) line count) (before : at ≤ length piece) where
-    found_goes : Goes T.grammar place.state (take (length piece - at) (drop at piece)) count found.next
-    found_goes = subst (λ s. Goes T.grammar s (take (length piece - at) (drop at piece)) count found.next) (sym is) found.goes
-
     pub found_said : IsSaid T.grammar IsForm (Some line)
     found_said = rest_said T.grammar IsForm sound found.next [] (Some line) found.is_state found.says
 
     pub found_within : at + count < length piece
     found_within = omega (arith, before, found.within, ap length (rest_of_piece piece at), length-drop at piece)
 
-    pub found_line : (start : Form) → IsPlaced T.grammar IsForm start place.state → (letters : List ℕ) × (line_says T.grammar start letters ≡ Ok (Some line))
-    found_line start placed = let next = scan_placed piece at IsForm start place.state found.next count placed found_goes found.is_state in (next.part ++ [], next.leads [] ∙ found.says)
+    pub found_line : (start : Form) → IsPlaced T.grammar IsForm start (Lead form) → (letters : List ℕ) × (line_says T.grammar start letters ≡ Ok (Some line))
+    found_line start placed = let next = scan_placed piece at IsForm start (Lead form) found.next count placed found.goes found.is_state in (next.part ++ [], next.leads [] ∙ found.says)
 
     found_ends : get_or piece (at + count) 0 ≡ 10
     found_ends = sym (get_or-drop at piece count 0) ∙ (ap (λ (s : List ℕ). get_or s count 0) (sym (rest_of_piece piece at)) ∙ found.ends)
 
-    pub found_led : (read : List ℕ) (progress new : Progress) (answer : Result (Option (Place Form)) TextFault) → length read + length piece ≤ 2 ^ 30 → Stands T (read ++ take at piece) progress place
-        → MatchResult answer (HasTaken T progress new place (Some line)) (IsTakeFault T place (Some line))
-        → MatchResult answer (HasReached T ((read ++ take (at + count) piece) ++ get_or piece (at + count) 0 ∷ []) new) (IsFault T ((read ++ take (at + count) piece) ++ get_or piece (at + count) 0 ∷ []) ⊥)
+    pub found_led : (read : List ℕ) (progress new : Progress) (answer : Result (Option ℕ) TextFault) → length read + length piece ≤ 2 ^ 30
+        → Stands T (read ++ take at piece) progress (record { state = Lead form; lines = lines; counted = counted })
+        → MatchResult answer (HasTaken T progress new counted (Some line)) (IsTakeFault T lines counted (Some line))
+        → MatchResult answer (λ next. HasReached T ((read ++ take (at + count) piece) ++ get_or piece (at + count) 0 ∷ []) new (next_place T new lines next)) (IsFault T ((read ++ take (at + count) piece) ++ get_or piece (at + count) 0 ∷ []) ⊥)
     found_led read progress new answer short stands taken =
-        led_line T (read ++ take (at + count) piece) progress (record { state = found.next; lines = place.lines; counted = place.counted })
-        (scan_stands piece at IsForm sound read progress place found.next count before short stands found_goes found.is_state)
+        led_line T (read ++ take (at + count) piece) progress (record { state = found.next; lines = lines; counted = counted })
+        (scan_stands piece at IsForm sound read progress (record { state = Lead form; lines = lines; counted = counted }) found.next count before short stands found.goes found.is_state)
         (get_or piece (at + count) 0) new (Some line) answer
         (omega (arith, short, found_within, length-append read (take (at + count) piece), length-take-le (at + count) piece (omega (arith, found_within)))) found_ends found.says taken

@@ -10,8 +10,9 @@ use Rattle.line_text.specs.declared.faults.TextFault.TheVariants.{BadLine, TooLa
 use Rattle.line_text.specs.declared.forms.Reject.{Reject}
 use Rattle.line_text.specs.declared.forms.Reject.TheVariants.{Bad, TooLarge as TooLargeReject}
 use Rattle.line_text.specs.declared.states.State.{State}
+use Rattle.line_text.specs.declared.states.State.TheVariants.{Lead}
 use Rattle.line_text.specs.Lines.{IsGrammar, line_says}
-use Rattle.line_text.specs.Readings.{Stands, HasReached, HasTaken, IsTakeFault, IsFault, fault_of}
+use Rattle.line_text.specs.Readings.{Stands, HasReached, HasTaken, IsTakeFault, next_place, IsFault, fault_of}
 use Rattle.line_text.specs.Scans.{Goes}
 use Rattle.line_text.specs.States.{IsState, Leads, RejectsByte, rest_says}
 use Rattle.line_text.specs.Texts.{Text, Standing, rest_of, said_at, count_of, line_ended, longer, moved, beginning, standing, GoesOn, AddsLine, IsWithin, Passes, IsOpen, HasText, IsByteCause, IsCause, NamesLine, IsRefused}
@@ -133,9 +134,10 @@ module _ {Progress Form Line : Type 0} (T : Text Progress Form Line) where
     within_at : (said : Option Line) → (T.rules.counts said ≡ true → place.counted < T.rules.most) → IsWithin T (standing T read) said
     within_at said few counts = omega (arith, few counts, counted_at)
 
-    pub stands_line : (new : Progress) (said : Option Line) (next : Place Form) → length read < 2 ^ 30 → rest_says T.grammar place.state [] ≡ Ok said → HasTaken T progress new place said (Some next) → Stands T (read ++ 10 ∷ []) new next
-    stands_line new said next short says taken =
-        subst (Stands T (read ++ 10 ∷ []) new) (sym taken.3) (record {
+    pub stands_line : (new : Progress) (said : Option Line) (more : ℕ) → length read < 2 ^ 30 → rest_says T.grammar place.state [] ≡ Ok said → HasTaken T progress new place.counted said (Some more)
+        → Stands T (read ++ 10 ∷ []) new (record { state = Lead (T.rules.start new); lines = place.lines + 1; counted = more })
+    stands_line new said more short says taken =
+        subst (λ n. Stands T (read ++ 10 ∷ []) new (record { state = Lead (T.rules.start new); lines = place.lines + 1; counted = n })) (sym taken.3) (record {
           part = [];
           at = standing_push read 10
               ∙ (ap (λ (a : Standing Progress). line_ended T a (said_at T a)) stands.at
@@ -146,7 +148,7 @@ module _ {Progress Form Line : Type 0} (T : Text Progress Form Line) where
           opened = open_push read 10 stands.opened (omega (arith, short, size_at), (said, rest_at [] ∙ says, taken.0, within_at said taken.1));
         })
 
-    pub text_ends : (new : Progress) (said : Option Line) → rest_says T.grammar place.state [] ≡ Ok said → HasTaken T progress new place said None → HasText T (read ++ 10 ∷ []) ⊥ new
+    pub text_ends : (new : Progress) (said : Option Line) → rest_says T.grammar place.state [] ≡ Ok said → HasTaken T progress new place.counted said None → HasText T (read ++ 10 ∷ []) ⊥ new
     text_ends new said says taken = record {
       front = read;
       said = said;
@@ -195,7 +197,7 @@ module _ {Progress Form Line : Type 0} (T : Text Progress Form Line) where
         by Bad rejects = refused_byte byte Bad short rejects
         by (TooLargeReject kind) rejects = refused_byte byte (TooLargeReject kind) short rejects
 
-    pub fault_line : (said : Option Line) (fault : TextFault) → length read < 2 ^ 30 → rest_says T.grammar place.state [] ≡ Ok said → IsTakeFault T place said fault → IsFault T (read ++ 10 ∷ []) ⊥ fault
+    pub fault_line : (said : Option Line) (fault : TextFault) → length read < 2 ^ 30 → rest_says T.grammar place.state [] ≡ Ok said → IsTakeFault T place.lines place.counted said fault → IsFault T (read ++ 10 ∷ []) ⊥ fault
     fault_line said fault short says (inl memory) = subst (IsFault T (read ++ 10 ∷ []) ⊥) (sym memory) tt
     fault_line said fault short says (inr many) = subst (IsFault T (read ++ 10 ∷ []) ⊥) (sym many.0) (record {
       front = read;
@@ -207,10 +209,11 @@ module _ {Progress Form Line : Type 0} (T : Text Progress Form Line) where
     })
 
     -- what comes of a line that ends
-    pub led_line : (byte : ℕ) (new : Progress) (said : Option Line) (answer : Result (Option (Place Form)) TextFault) → length read < 2 ^ 30 → byte ≡ 10 → rest_says T.grammar place.state [] ≡ Ok said
-        → MatchResult answer (HasTaken T progress new place said) (IsTakeFault T place said)
-        → MatchResult answer (HasReached T (read ++ byte ∷ []) new) (IsFault T (read ++ byte ∷ []) ⊥)
-    led_line byte new said (Ok (Some next)) short end says taken = subst (λ b. Stands T (read ++ b ∷ []) new next) (sym end) (stands_line new said next short says taken)
+    pub led_line : (byte : ℕ) (new : Progress) (said : Option Line) (answer : Result (Option ℕ) TextFault) → length read < 2 ^ 30 → byte ≡ 10 → rest_says T.grammar place.state [] ≡ Ok said
+        → MatchResult answer (HasTaken T progress new place.counted said) (IsTakeFault T place.lines place.counted said)
+        → MatchResult answer (λ next. HasReached T (read ++ byte ∷ []) new (next_place T new place.lines next)) (IsFault T (read ++ byte ∷ []) ⊥)
+    led_line byte new said (Ok (Some more)) short end says taken =
+        subst (λ b. Stands T (read ++ b ∷ []) new (record { state = Lead (T.rules.start new); lines = place.lines + 1; counted = more })) (sym end) (stands_line new said more short says taken)
     led_line byte new said (Ok None) short end says taken = subst (λ b. HasText T (read ++ b ∷ []) ⊥ new) (sym end) (text_ends new said says taken)
     led_line byte new said (Err fault) short end says taken = subst (λ b. IsFault T (read ++ b ∷ []) ⊥ fault) (sym end) (fault_line said fault short says taken)
 

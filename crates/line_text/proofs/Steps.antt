@@ -7,11 +7,11 @@ use Rattle.line_text.specs.declared.forms.Bounds.{Bounds}
 use Rattle.line_text.specs.declared.forms.Reject.{Reject}
 use Rattle.line_text.specs.declared.forms.Reject.TheVariants.{Bad, TooLarge}
 use Rattle.line_text.specs.declared.states.State.{State}
-use Rattle.line_text.specs.declared.states.State.TheVariants.{Lead, Comment, Gap, Word, Number}
+use Rattle.line_text.specs.declared.states.State.TheVariants.{Lead, Comment, Gap, Word, Number, Joint}
 use Rattle.line_text.specs.declared.states.Step.{Step}
 use Rattle.line_text.specs.declared.states.Step.TheVariants.{Next, Ends, Rejects}
 use Rattle.line_text.specs.Fronts.{BeginsNone, BeginsOne, IsOutside}
-use Rattle.line_text.specs.Lines.{Grammar, then_leads, or_bad, bounded, number_leads, is_number, word_leads, says_words, says_line, says_lead, word_at, place_from, IsBounds}
+use Rattle.line_text.specs.Lines.{Grammar, then_leads, or_bad, bounded, number_leads, ends_number, is_dot, rest_leads, is_number, word_leads, says_words, says_number, says_line, says_lead, word_at, place_from, IsBounds}
 use Rattle.line_text.specs.States.{says_from, rest_says, IsFront, IsStopped, RejectsByte, Leads, Takes}
 use Rattle.line_text.specs.Words.{is_blank, Cut, cut, with_word, words_of, behind_blank, with_letter, is_digit, number_behind}
 use Rattle.line_text.proofs.Letters.{no_place, front_is, front_fits}
@@ -41,22 +41,6 @@ bounded_high bounds value high = cond-true (nat_lt bounds.most value) (Err bound
 
 pub digit_more : (value byte : ℕ) (word : List ℕ) → is_digit byte ≡ true → number_behind value (byte ∷ word) ≡ number_behind (value * 10 + digit_value byte) word
 digit_more value byte word digit = cond-true (is_digit byte) (number_behind (value * 10 + digit_value byte) word) None digit
-
-pub no_digit : (value byte : ℕ) (word : List ℕ) → is_digit byte ≡ false → number_behind value (byte ∷ word) ≡ None
-no_digit value byte word digit = cond-false (is_digit byte) (number_behind (value * 10 + digit_value byte) word) None digit
-
--- more digits make a number no less
-abbrev IsNoLess : ℕ → Option ℕ → Type 0
-IsNoLess value None = Unit {0}
-IsNoLess value (Some number) = value ≤ number
-
-no_less : (word : List ℕ) (low value : ℕ) → low ≤ value → IsNoLess low (number_behind value word)
-no_less [] low value le = le
-no_less (byte ∷ word) low value le = by (is_digit byte) refl (no_less word low (value * 10 + digit_value byte) (omega arith))
-  where
-    by : (digit : Bool) → is_digit byte ≡ digit → IsNoLess low (number_behind (value * 10 + digit_value byte) word) → IsNoLess low (number_behind value (byte ∷ word))
-    by true is more = subst (IsNoLess low) (sym (digit_more value byte word is)) more
-    by false is more = subst (IsNoLess low) (sym (no_digit value byte word is)) tt
 
 and_false : (b : Bool) → (b && false) ≡ false
 and_false true = refl
@@ -132,10 +116,39 @@ module _ {Form Line : Type 0} (G : Grammar Form Line) (IsForm : Form → Type 0)
   pub gap_blank : (form : Form) (byte : ℕ) → is_blank byte ≡ true → Leads G (Gap form) (byte ∷ []) (Gap form)
   gap_blank form byte blank rest = ap (λ (c : Cut). says_words G form (words_of c)) (cut_blank byte rest blank)
 
+  -- ---- what the rest of a word of numbers does, byte by byte
+
+  module _ (form : Form) where
+    pub rest_digit : (value byte : ℕ) (word : List ℕ) → is_digit byte ≡ true → rest_leads G form (Some value) (byte ∷ word) ≡ rest_leads G form (Some (value * 10 + digit_value byte)) word
+    rest_digit value byte word digit =
+        cond-true (is_digit byte) (rest_leads G form (Some (value * 10 + digit_value byte)) word)
+        (cond (is_dot G form byte) (then_leads (number_leads G form value) (λ next. rest_leads G next None word)) (Err Bad)) digit
+
+    no_digit_on : (value byte : ℕ) (word : List ℕ) → is_digit byte ≡ false
+        → rest_leads G form (Some value) (byte ∷ word) ≡ cond (is_dot G form byte) (then_leads (number_leads G form value) (λ next. rest_leads G next None word)) (Err Bad)
+    no_digit_on value byte word digit =
+        cond-false (is_digit byte) (rest_leads G form (Some (value * 10 + digit_value byte)) word)
+        (cond (is_dot G form byte) (then_leads (number_leads G form value) (λ next. rest_leads G next None word)) (Err Bad)) digit
+
+    pub rest_dot : (value byte : ℕ) (word : List ℕ) → is_digit byte ≡ false → is_dot G form byte ≡ true
+        → rest_leads G form (Some value) (byte ∷ word) ≡ then_leads (number_leads G form value) (λ next. rest_leads G next None word)
+    rest_dot value byte word digit dot =
+        no_digit_on value byte word digit ∙ cond-true (is_dot G form byte) (then_leads (number_leads G form value) (λ next. rest_leads G next None word)) (Err Bad) dot
+
+    rest_other : (value byte : ℕ) (word : List ℕ) → is_digit byte ≡ false → is_dot G form byte ≡ false → rest_leads G form (Some value) (byte ∷ word) ≡ Err Bad
+    rest_other value byte word digit dot =
+        no_digit_on value byte word digit ∙ cond-false (is_dot G form byte) (then_leads (number_leads G form value) (λ next. rest_leads G next None word)) (Err Bad) dot
+
+    pub rest_first : (byte : ℕ) (word : List ℕ) → is_digit byte ≡ true → rest_leads G form None (byte ∷ word) ≡ rest_leads G form (Some (0 * 10 + digit_value byte)) word
+    rest_first byte word digit = cond-true (is_digit byte) (rest_leads G form (Some (0 * 10 + digit_value byte)) word) (Err Bad) digit
+
+    ends_joined : (value : ℕ) → G.joined form ≡ true → ends_number G form value ≡ Err Bad
+    ends_joined value is = cond-true (G.joined form) (Err Bad) (number_leads G form value) is
+
   -- ---- numbers
 
   module _ (form : Form) (bounds : Bounds) (own : G.bounds form ≡ Some bounds) where
-    number_in : (value : ℕ) → bounds.least ≤ value → value ≤ bounds.most → number_leads G form value ≡ Ok (G.after_number form value)
+    pub number_in : (value : ℕ) → bounds.least ≤ value → value ≤ bounds.most → number_leads G form value ≡ Ok (G.after_number form value)
     number_in value least most =
         ap (λ o. then_leads (or_bad o) (λ bounds. then_leads (bounded bounds value) (λ bounded. Ok (G.after_number form bounded)))) own
         ∙ ap (λ r. then_leads r (λ bounded. Ok (G.after_number form bounded))) (bounded_in bounds value least most)
@@ -145,80 +158,198 @@ module _ {Form Line : Type 0} (G : Grammar Form Line) (IsForm : Form → Type 0)
         ap (λ o. then_leads (or_bad o) (λ bounds. then_leads (bounded bounds value) (λ bounded. Ok (G.after_number form bounded)))) own
         ∙ ap (λ r. then_leads r (λ bounded. Ok (G.after_number form bounded))) out
 
-    -- the value of the rest of a word, behind digits
-    abbrev says_number : Option ℕ → List (List ℕ) → Result (Option Line) Reject
-    says_number value others = then_leads (then_leads (or_bad value) (number_leads G form)) (λ next. says_words G next others)
+    abbrev says_rest : Option ℕ → List ℕ → List (List ℕ) → Result (Option Line) Reject
+    says_rest number word others = says_number G form number (record { word = word; others = others })
 
     pub gap_digit : (byte : ℕ) → is_blank byte ≡ false → is_digit byte ≡ true → (rest : List ℕ) → rest_says G (Gap form) (byte ∷ rest) ≡ rest_says G (Number form bounds (0 * 10 + digit_value byte)) rest
     gap_digit byte letter digit rest =
         let c = cut rest in
         let word = byte ∷ c.word in
-        let number = then_leads (or_bad (number_behind 0 word)) (number_leads G form) in
         let literal = then_leads (or_bad (place_from 0 (G.words form) word)) (λ place. Ok (G.after_word form place)) in
         ap (λ (c : Cut). says_words G form (words_of c)) (cut_letter byte rest letter)
-        ∙ (ap (λ r. then_leads r (λ next. says_words G next c.others)) (cond-true (is_some (G.bounds form) && is_digit byte) number literal (ap (λ o. is_some o && is_digit byte) own ∙ digit))
-        ∙ ap (λ o. then_leads (then_leads (or_bad o) (number_leads G form)) (λ next. says_words G next c.others)) (digit_more 0 byte c.word digit))
+        ∙ (ap (λ r. then_leads r (λ next. says_words G next c.others)) (cond-true (is_some (G.bounds form) && is_digit byte) (rest_leads G form None word) literal (ap (λ o. is_some o && is_digit byte) own ∙ digit))
+        ∙ ap (λ r. then_leads r (λ next. says_words G next c.others)) (rest_first form byte c.word digit))
+
+    pub joint_digit : (byte : ℕ) → is_blank byte ≡ false → is_digit byte ≡ true → (rest : List ℕ) → rest_says G (Joint form) (byte ∷ rest) ≡ rest_says G (Number form bounds (0 * 10 + digit_value byte)) rest
+    joint_digit byte letter digit rest =
+        ap (says_from G (Joint form)) (cut_letter byte rest letter) ∙ ap (λ r. then_leads r (λ next. says_words G next (cut rest).others)) (rest_first form byte (cut rest).word digit)
 
     pub number_digit : (value byte : ℕ) → is_blank byte ≡ false → is_digit byte ≡ true → (rest : List ℕ)
         → rest_says G (Number form bounds value) (byte ∷ rest) ≡ rest_says G (Number form bounds (value * 10 + digit_value byte)) rest
     number_digit value byte letter digit rest =
         ap (says_from G (Number form bounds value)) (cut_letter byte rest letter)
-        ∙ ap (λ o. then_leads (then_leads (or_bad o) (number_leads G form)) (λ next. says_words G next (cut rest).others)) (digit_more value byte (cut rest).word digit)
+        ∙ ap (λ r. then_leads r (λ next. says_words G next (cut rest).others)) (rest_digit form value byte (cut rest).word digit)
 
-    pub number_letter : (value byte : ℕ) → is_blank byte ≡ false → is_digit byte ≡ false → (rest : List ℕ) → rest_says G (Number form bounds value) (byte ∷ rest) ≡ Err Bad
-    number_letter value byte letter digit rest =
+    pub number_letter : (value byte : ℕ) → is_blank byte ≡ false → is_digit byte ≡ false → is_dot G form byte ≡ false → (rest : List ℕ) → rest_says G (Number form bounds value) (byte ∷ rest) ≡ Err Bad
+    number_letter value byte letter digit dot rest =
         ap (says_from G (Number form bounds value)) (cut_letter byte rest letter)
-        ∙ ap (λ o. then_leads (then_leads (or_bad o) (number_leads G form)) (λ next. says_words G next (cut rest).others)) (no_digit value byte (cut rest).word digit)
+        ∙ ap (λ r. then_leads r (λ next. says_words G next (cut rest).others)) (rest_other form value byte (cut rest).word digit dot)
 
-    pub number_blank : (value byte : ℕ) → is_blank byte ≡ true → bounds.least ≤ value → value ≤ bounds.most → Leads G (Number form bounds value) (byte ∷ []) (Gap (G.after_number form value))
-    number_blank value byte blank least most rest =
+    pub number_dot : (value byte : ℕ) → is_blank byte ≡ false → is_digit byte ≡ false → is_dot G form byte ≡ true → bounds.least ≤ value → value ≤ bounds.most
+        → Leads G (Number form bounds value) (byte ∷ []) (Joint (G.after_number form value))
+    number_dot value byte letter digit dot least most rest =
+        ap (says_from G (Number form bounds value)) (cut_letter byte rest letter)
+        ∙ (ap (λ r. then_leads r (λ next. says_words G next (cut rest).others)) (rest_dot form value byte (cut rest).word digit dot)
+        ∙ ap (λ r. then_leads (then_leads r (λ next. rest_leads G next None (cut rest).word)) (λ next. says_words G next (cut rest).others)) (number_in value least most))
+
+    pub number_dot_early : (value byte : ℕ) → is_blank byte ≡ false → is_digit byte ≡ false → is_dot G form byte ≡ true → value < bounds.least → value ≤ bounds.most → (rest : List ℕ)
+        → rest_says G (Number form bounds value) (byte ∷ rest) ≡ Err Bad
+    number_dot_early value byte letter digit dot low most rest =
+        ap (says_from G (Number form bounds value)) (cut_letter byte rest letter)
+        ∙ (ap (λ r. then_leads r (λ next. says_words G next (cut rest).others)) (rest_dot form value byte (cut rest).word digit dot)
+        ∙ ap (λ r. then_leads (then_leads r (λ next. rest_leads G next None (cut rest).word)) (λ next. says_words G next (cut rest).others)) (number_out value Bad (bounded_low bounds value low most)))
+
+    pub number_blank : (value byte : ℕ) (next : Form) → is_blank byte ≡ true → ends_number G form value ≡ Ok next → Leads G (Number form bounds value) (byte ∷ []) (Gap next)
+    number_blank value byte next blank ends rest =
         ap (says_from G (Number form bounds value)) (cut_blank byte rest blank)
-        ∙ ap (λ r. then_leads r (λ next. says_words G next (words_of (cut rest)))) (number_in value least most)
+        ∙ ap (λ r. then_leads r (λ next. says_words G next (words_of (cut rest)))) ends
 
-    pub number_early : (value byte : ℕ) → is_blank byte ≡ true → value < bounds.least → value ≤ bounds.most → (rest : List ℕ) → rest_says G (Number form bounds value) (byte ∷ rest) ≡ Err Bad
-    number_early value byte blank low most rest =
+    pub number_early : (value byte : ℕ) → is_blank byte ≡ true → ends_number G form value ≡ Err Bad → (rest : List ℕ) → rest_says G (Number form bounds value) (byte ∷ rest) ≡ Err Bad
+    number_early value byte blank ends rest =
         ap (says_from G (Number form bounds value)) (cut_blank byte rest blank)
-        ∙ ap (λ r. then_leads r (λ next. says_words G next (words_of (cut rest)))) (number_out value Bad (bounded_low bounds value low most))
+        ∙ ap (λ r. then_leads r (λ next. says_words G next (words_of (cut rest)))) ends
 
-    pub number_ends : (value : ℕ) → bounds.least ≤ value → value ≤ bounds.most → rest_says G (Number form bounds value) [] ≡ rest_says G (Gap (G.after_number form value)) []
-    number_ends value least most = ap (λ r. then_leads r (λ next. says_words G next [])) (number_in value least most)
+    pub number_ends : (value : ℕ) (next : Form) → ends_number G form value ≡ Ok next → rest_says G (Number form bounds value) [] ≡ rest_says G (Gap next) []
+    number_ends value next ends = ap (λ r. then_leads r (λ next. says_words G next [])) ends
 
-    pub number_ends_early : (value : ℕ) → value < bounds.least → value ≤ bounds.most → rest_says G (Number form bounds value) [] ≡ Err Bad
-    number_ends_early value low most = ap (λ r. then_leads r (λ next. says_words G next [])) (number_out value Bad (bounded_low bounds value low most))
+    pub number_ends_early : (value : ℕ) → ends_number G form value ≡ Err Bad → rest_says G (Number form bounds value) [] ≡ Err Bad
+    number_ends_early value ends = ap (λ r. then_leads r (λ next. says_words G next [])) ends
+
+    -- the end of a number that isn't joined to another
+    pub ends_in : (value : ℕ) → G.joined form ≡ false → bounds.least ≤ value → value ≤ bounds.most → ends_number G form value ≡ Ok (G.after_number form value)
+    ends_in value alone least most = cond-false (G.joined form) (Err Bad) (number_leads G form value) alone ∙ number_in value least most
+
+    pub ends_early : (value : ℕ) → value < bounds.least → value ≤ bounds.most → ends_number G form value ≡ Err Bad
+    ends_early value low most = by (G.joined form) refl
+      where
+        by : (joined : Bool) → G.joined form ≡ joined → ends_number G form value ≡ Err Bad
+        by true is = ends_joined form value is
+        by false is = cond-false (G.joined form) (Err Bad) (number_leads G form value) is ∙ number_out value Bad (bounded_low bounds value low most)
+
+    -- ---- numbers that have left their bounds
+
+    -- a number that leads nowhere, and none with more digits does
+    module _ (others : List (List ℕ)) where
+      says_out : (value : ℕ) (reject : Reject) → number_leads G form value ≡ Err reject → (says_rest (Some value) [] others ≡ Err Bad) ⊎ (says_rest (Some value) [] others ≡ Err reject)
+      says_out value reject out = by (G.joined form) refl
+        where
+          by : (joined : Bool) → G.joined form ≡ joined → (says_rest (Some value) [] others ≡ Err Bad) ⊎ (says_rest (Some value) [] others ≡ Err reject)
+          by true is = inl (ap (λ r. then_leads r (λ next. says_words G next others)) (ends_joined form value is))
+          by false is = inr (ap (λ r. then_leads r (λ next. says_words G next others)) (cond-false (G.joined form) (Err Bad) (number_leads G form value) is ∙ out))
+
+      says_dot : (value byte : ℕ) (word : List ℕ) (reject : Reject) → is_digit byte ≡ false → number_leads G form value ≡ Err reject
+          → (says_rest (Some value) (byte ∷ word) others ≡ Err Bad) ⊎ (says_rest (Some value) (byte ∷ word) others ≡ Err reject)
+      says_dot value byte word reject digit out = by (is_dot G form byte) refl
+        where
+          by : (dot : Bool) → is_dot G form byte ≡ dot → (says_rest (Some value) (byte ∷ word) others ≡ Err Bad) ⊎ (says_rest (Some value) (byte ∷ word) others ≡ Err reject)
+          by true is =
+              inr (ap (λ r. then_leads r (λ next. says_words G next others)) (rest_dot form value byte word digit is)
+              ∙ ap (λ r. then_leads (then_leads r (λ next. rest_leads G next None word)) (λ next. says_words G next others)) out)
+          by false is = inl (ap (λ r. then_leads r (λ next. says_words G next others)) (rest_other form value byte word digit is))
 
     -- a number that has passed its bounds says why, or its word is no number
-    passed : (number : Option ℕ) (value : ℕ) (others : List (List ℕ)) → bounds.most < value → IsNoLess value number → (says_number number others ≡ Err Bad) ⊎ (says_number number others ≡ Err bounds.above)
-    passed None value others high less = inl refl
-    passed (Some number) value others high less = inr (ap (λ r. then_leads r (λ next. says_words G next others)) (number_out number bounds.above (bounded_high bounds number (omega arith))))
+    passed : (word : List ℕ) (value : ℕ) (others : List (List ℕ)) → bounds.most < value → (says_rest (Some value) word others ≡ Err Bad) ⊎ (says_rest (Some value) word others ≡ Err bounds.above)
+    passed [] value others high = says_out others value bounds.above (number_out value bounds.above (bounded_high bounds value high))
+    passed (byte ∷ word) value others high = by (is_digit byte) refl (passed word (value * 10 + digit_value byte) others (omega (arith, high)))
+      where
+        by : (digit : Bool) → is_digit byte ≡ digit
+            → (says_rest (Some (value * 10 + digit_value byte)) word others ≡ Err Bad) ⊎ (says_rest (Some (value * 10 + digit_value byte)) word others ≡ Err bounds.above) → (says_rest (Some value) (byte ∷ word) others ≡ Err Bad) ⊎ (says_rest (Some value) (byte ∷ word) others ≡ Err bounds.above)
+        by true is more =
+            subst (λ r. (then_leads r (λ next. says_words G next others) ≡ Err Bad) ⊎ (then_leads r (λ next. says_words G next others) ≡ Err bounds.above)) (sym (rest_digit form value byte word is))
+            more
+        by false is more = says_dot others value byte word bounds.above is (number_out value bounds.above (bounded_high bounds value high))
 
     passed_rest : (value : ℕ) → bounds.most < value → (rest : List ℕ) → (rest_says G (Number form bounds value) rest ≡ Err Bad) ⊎ (rest_says G (Number form bounds value) rest ≡ Err bounds.above)
-    passed_rest value high rest = passed (number_behind value (cut rest).word) value (cut rest).others high (no_less (cut rest).word value value (omega arith))
+    passed_rest value high rest = passed (cut rest).word value (cut rest).others high
+
+    -- some rest says why: the end of the word, or the dot
+    says_why : (value : ℕ) → bounds.most < value → (rest : List ℕ) × (rest_says G (Number form bounds value) rest ≡ Err bounds.above)
+    says_why value high = by (G.joined form) refl
+      where
+        out : number_leads G form value ≡ Err bounds.above
+        out = number_out value bounds.above (bounded_high bounds value high)
+
+        by : (joined : Bool) → G.joined form ≡ joined → (rest : List ℕ) × (rest_says G (Number form bounds value) rest ≡ Err bounds.above)
+        by true is = (
+          46 ∷ [],
+          ap (λ r. then_leads r (λ next. says_words G next [])) (rest_dot form value 46 [] refl (ap (λ b. b && true) is))
+              ∙ ap (λ r. then_leads (then_leads r (λ next. rest_leads G next None [])) (λ next. says_words G next [])) out,
+        )
+        by false is = ([], ap (λ r. then_leads r (λ next. says_words G next [])) (cond-false (G.joined form) (Err Bad) (number_leads G form value) is ∙ out))
 
     stops_above : (value : ℕ) (above : Reject) → bounds.above ≡ above → bounds.most < value → IsStopped (rest_says G (Number form bounds value)) above
     stops_above value Bad is high = λ rest. ⊎_elim (λ bad. bad) (λ past. past ∙ ap (λ r. Err r) is) (passed_rest value high rest)
-    stops_above value (TooLarge kind) is high = (
-      λ rest. ⊎_elim (λ bad. inl bad) (λ past. inr (past ∙ ap (λ r. Err r) is)) (passed_rest value high rest),
-      ([], ap (λ r. then_leads r (λ next. says_words G next [])) (number_out value bounds.above (bounded_high bounds value high)) ∙ ap (λ r. Err r) is),
-    )
+    stops_above value (TooLarge kind) is high =
+        let why = says_why value high in (
+          λ rest. ⊎_elim (λ bad. inl bad) (λ past. inr (past ∙ ap (λ r. Err r) is)) (passed_rest value high rest),
+          (why.0, why.1 ∙ ap (λ r. Err r) is),
+        )
 
     -- too few for the bounds, and past them with one more digit
     module _ (value : ℕ) (low : value < bounds.least) (most : value ≤ bounds.most) (past : bounds.most < value * 10) (bad : bounds.above ≡ Bad) where
-      too_few : (word : List ℕ) (others : List (List ℕ)) → says_number (number_behind value word) others ≡ Err Bad
-      too_few [] others = ap (λ r. then_leads r (λ next. says_words G next others)) (number_out value Bad (bounded_low bounds value low most))
+      out_low : number_leads G form value ≡ Err Bad
+      out_low = number_out value Bad (bounded_low bounds value low most)
+
+      too_few : (word : List ℕ) (others : List (List ℕ)) → says_rest (Some value) word others ≡ Err Bad
+      too_few [] others = ⊎_elim (λ is. is) (λ is. is) (says_out others value Bad out_low)
       too_few (byte ∷ word) others = by (is_digit byte) refl
         where
-          by : (digit : Bool) → is_digit byte ≡ digit → says_number (number_behind value (byte ∷ word)) others ≡ Err Bad
+          by : (digit : Bool) → is_digit byte ≡ digit → says_rest (Some value) (byte ∷ word) others ≡ Err Bad
           by true is =
-              ap (λ o. says_number o others) (digit_more value byte word is)
-              ∙ ⊎_elim (λ none. none) (λ high. high ∙ ap (λ r. Err r) bad)
-              (passed (number_behind (value * 10 + digit_value byte) word) (value * 10 + digit_value byte) others (omega arith) (no_less word (value * 10 + digit_value byte) (value * 10 + digit_value byte) (omega arith)))
-          by false is = ap (λ o. says_number o others) (no_digit value byte word is)
+              ap (λ r. then_leads r (λ next. says_words G next others)) (rest_digit form value byte word is)
+              ∙ ⊎_elim (λ none. none) (λ high. high ∙ ap (λ r. Err r) bad) (passed word (value * 10 + digit_value byte) others (omega (arith, past)))
+          by false is = ⊎_elim (λ is. is) (λ is. is) (says_dot others value byte word Bad is out_low)
 
     pub number_stops : (value : ℕ) (reject : Reject) → IsBounds bounds → IsOutside bounds value reject → IsStopped (rest_says G (Number form bounds value)) reject
     number_stops value reject is (inl high) = subst (IsStopped (rest_says G (Number form bounds value))) (sym high.1) (stops_above value bounds.above refl high.0)
     number_stops value reject is (inr low) =
         subst (IsStopped (rest_says G (Number form bounds value))) (sym low.3)
         (λ rest. too_few value low.1 (omega (arith, is.some, low.1, low.2)) low.2 (⊎_elim (λ none. absurd (omega (arith, none, low.1))) (λ bad. bad) is.one_sided) (cut rest).word (cut rest).others)
+
+  -- ---- behind the dot of a number
+
+  joint_blank : (form : Form) (byte : ℕ) → is_blank byte ≡ true → (rest : List ℕ) → rest_says G (Joint form) (byte ∷ rest) ≡ Err Bad
+  joint_blank form byte blank rest = ap (says_from G (Joint form)) (cut_blank byte rest blank)
+
+  joint_letter : (form : Form) (byte : ℕ) → is_blank byte ≡ false → is_digit byte ≡ false → (rest : List ℕ) → rest_says G (Joint form) (byte ∷ rest) ≡ Err Bad
+  joint_letter form byte letter digit rest =
+      ap (says_from G (Joint form)) (cut_letter byte rest letter)
+      ∙ ap (λ r. then_leads r (λ next. says_words G next (cut rest).others)) (cond-false (is_digit byte) (rest_leads G form (Some (0 * 10 + digit_value byte)) (cut rest).word) (Err Bad) digit)
+
+  -- where no number may come none is one
+  module _ (form : Form) (none : G.bounds form ≡ None) where
+    leads_none : (value : ℕ) → number_leads G form value ≡ Err Bad
+    leads_none value = ap (λ o. then_leads (or_bad o) (λ bounds. then_leads (bounded bounds value) (λ bounded. Ok (G.after_number form bounded)))) none
+
+    none_ends : (value : ℕ) → ends_number G form value ≡ Err Bad
+    none_ends value = by (G.joined form) refl
+      where
+        by : (joined : Bool) → G.joined form ≡ joined → ends_number G form value ≡ Err Bad
+        by true is = ends_joined form value is
+        by false is = cond-false (G.joined form) (Err Bad) (number_leads G form value) is ∙ leads_none value
+
+    none_leads : (word : List ℕ) (value : ℕ) → rest_leads G form (Some value) word ≡ Err Bad
+    none_leads [] value = none_ends value
+    none_leads (byte ∷ word) value = by (is_digit byte) (is_dot G form byte) refl refl (none_leads word (value * 10 + digit_value byte))
+      where
+        by : (digit dot : Bool) → is_digit byte ≡ digit → is_dot G form byte ≡ dot → rest_leads G form (Some (value * 10 + digit_value byte)) word ≡ Err Bad → rest_leads G form (Some value) (byte ∷ word) ≡ Err Bad
+        by true dot is then more = rest_digit form value byte word is ∙ more
+        by false true is then more = rest_dot form value byte word is then ∙ ap (λ r. then_leads r (λ next. rest_leads G next None word)) (leads_none value)
+        by false false is then more = rest_other form value byte word is then
+
+    joint_none : (byte : ℕ) → is_blank byte ≡ false → is_digit byte ≡ true → (rest : List ℕ) → rest_says G (Joint form) (byte ∷ rest) ≡ Err Bad
+    joint_none byte letter digit rest =
+        ap (says_from G (Joint form)) (cut_letter byte rest letter)
+        ∙ ap (λ r. then_leads r (λ next. says_words G next (cut rest).others))
+        (cond-true (is_digit byte) (rest_leads G form (Some (0 * 10 + digit_value byte)) (cut rest).word) (Err Bad) digit ∙ none_leads (cut rest).word (0 * 10 + digit_value byte))
+
+  pub joint_stops : (form : Form) (byte : ℕ) → (is_digit byte ≡ true → G.bounds form ≡ None) → (rest : List ℕ) → rest_says G (Joint form) (byte ∷ rest) ≡ Err Bad
+  joint_stops form byte none rest = by (is_blank byte) (is_digit byte) refl refl
+    where
+      by : (blank digit : Bool) → is_blank byte ≡ blank → is_digit byte ≡ digit → rest_says G (Joint form) (byte ∷ rest) ≡ Err Bad
+      by true digit is then = joint_blank form byte is rest
+      by false true is then = joint_none form (none then) byte is then rest
+      by false false is then = joint_letter form byte is then rest
 
   -- ---- literal words
 
@@ -228,7 +359,7 @@ module _ {Form Line : Type 0} (G : Grammar Form Line) (IsForm : Form → Type 0)
 
   pub literal_leads : (form : Form) (word : List ℕ) → is_number G form word ≡ false → word_leads G form word ≡ then_leads (or_bad (place_from 0 (G.words form) word)) (λ place. Ok (G.after_word form place))
   literal_leads form word literal =
-      cond-false (is_number G form word) (then_leads (or_bad (number_behind 0 word)) (number_leads G form)) (then_leads (or_bad (place_from 0 (G.words form) word)) (λ place. Ok (G.after_word form place))) literal
+      cond-false (is_number G form word) (rest_leads G form None word) (then_leads (or_bad (place_from 0 (G.words form) word)) (λ place. Ok (G.after_word form place))) literal
 
   -- no line goes on with letters with which no word begins
   unknown : (form : Form) (front more : List ℕ) (others : List (List ℕ)) → is_number G form (front ++ more) ≡ false → BeginsNone (G.words form) front → says_words G form ((front ++ more) ∷ others) ≡ Err Bad

@@ -1,5 +1,5 @@
 -- What is written line by line can be read.
-use Rattle.std.proofs.Common.{◌≡◌, ◌≢◌, ℕ, ◌+◌, ◌*◌, ◌<◌, ◌^◌, true, false, List, [], ◌∷◌, ◌++◌, length, Option, Some, Ok, decimal, refl, ap, sym, ◌∙◌, arith, subst, append_assoc, append-nil, length-append}
+use Rattle.std.proofs.Common.{◌≡◌, ◌≢◌, ℕ, ◌+◌, ◌*◌, ◌<◌, ◌≤◌, ◌^◌, true, false, List, [], ◌∷◌, ◌++◌, length, Option, Some, Ok, decimal, refl, ap, sym, ◌∙◌, arith, subst, append_assoc, append-nil, length-append}
 use Rattle.std.specs.Char.{digit_value}
 use Rattle.std.specs.List.{AllByRecursion}
 use Rattle.std.specs.Str.Parse.{AllDigits, digits_value_after}
@@ -31,8 +31,7 @@ decimal_digits number small =
 
 module _ {Progress Form Line : Type 0} (T : Text Progress Form Line) (read line : List ℕ) (progress : Progress) (said : Option Line) (lines counted : ℕ)
     (at : standing T read ≡ record { progress = progress; part = []; lines = lines; counted = counted; size = length read }) (opened : IsOpen T read)
-    (within : AllByRecursion (λ byte. byte ≢ 10) line) (says : line_says T.grammar (T.rules.start progress) line ≡ Ok said)
-    (goes_on : T.rules.ends said ≡ false) (few : T.rules.counts said ≡ true → counted < T.rules.most) (short : length read + length line < 2 ^ 30) where
+    (within : AllByRecursion (λ byte. byte ≢ 10) line) (says : line_says T.grammar (T.rules.start progress) line ≡ Ok said) (short : length read + length line ≤ 2 ^ 30) where
   abbrev behind : List ℕ → Standing Progress
   behind front = record { progress = progress; part = front; lines = lines; counted = counted; size = length read + length front }
 
@@ -49,6 +48,16 @@ module _ {Progress Form Line : Type 0} (T : Text Progress Form Line) (read line 
   ends : said_at T (behind line) ≡ Ok said
   ends = ap (line_says T.grammar (T.rules.start progress)) (append-nil line) ∙ says
 
+  -- the line without its end
+  pub front_stands : standing T (read ++ line) ≡ behind line
+  front_stands = behind_front line within
+
+  pub front_open : IsOpen T (read ++ line)
+  front_open = open_run T line read opened passes
+
+  pub front_says : said_at T (standing T (read ++ line)) ≡ Ok said
+  front_says = ap (said_at T) front_stands ∙ ends
+
   whole : (read ++ line) ++ 10 ∷ [] ≡ read ++ (line ++ 10 ∷ [])
   whole = append_assoc read line (10 ∷ [])
 
@@ -57,14 +66,14 @@ module _ {Progress Form Line : Type 0} (T : Text Progress Form Line) (read line 
   written_stands =
       ap (standing T) (sym whole)
       ∙ (standing_push T (read ++ line) 10
-      ∙ (ap (λ (a : Standing Progress). line_ended T a (said_at T a)) (behind_front line within)
+      ∙ (ap (λ (a : Standing Progress). line_ended T a (said_at T a)) front_stands
       ∙ (ap (line_ended T (behind line)) ends
       ∙ ap (λ n. record { progress = T.rules.after progress said; part = []; lines = lines + 1; counted = counted + count_of T said; size = n }) length_whole)))
     where
       length_whole : length read + length line + 1 ≡ length (read ++ (line ++ 10 ∷ []))
       length_whole = omega (arith, length-append read (line ++ 10 ∷ []), length-append line (10 ∷ []))
 
-  pub written_open : IsOpen T (read ++ (line ++ 10 ∷ []))
-  written_open =
-      subst (IsOpen T) whole (open_push T (read ++ line) 10 (open_run T line read opened passes)
-      (subst (λ (a : Standing Progress). Passes T a 10) (sym (behind_front line within)) (omega (arith, short), (said, ends, goes_on, few))))
+  pub written_open : T.rules.ends said ≡ false → (T.rules.counts said ≡ true → counted < T.rules.most) → length read + length line < 2 ^ 30 → IsOpen T (read ++ (line ++ 10 ∷ []))
+  written_open goes_on few room =
+      subst (IsOpen T) whole (open_push T (read ++ line) 10 front_open
+      (subst (λ (a : Standing Progress). Passes T a 10) (sym front_stands) (omega (arith, room), (said, ends, goes_on, few))))

@@ -1,10 +1,11 @@
 -- What a line says.
-use Rattle.std.specs.Prelude.{◌≡◌, ◌⊎◌, ℕ, ◌+◌, ◌<◌, ◌≤◌, ◌^◌, Bool, false, ◌==◌, ◌&&◌, nat_lt, if◌then◌else◌, List, [], ◌∷◌, length, slice_index_or, Option, Some, None, is_some, Result, Ok, Err}
+use Rattle.std.specs.Prelude.{◌≡◌, ◌⊎◌, ℕ, ◌+◌, ◌<◌, ◌≤◌, ◌*◌, ◌^◌, Bool, true, false, ◌==◌, ◌&&◌, nat_lt, if◌then◌else◌, List, [], ◌∷◌, length, slice_index_or, Option, Some, None, is_some, Result, Ok, Err}
+use Rattle.std.specs.Char.{digit_value}
 use Rattle.std.specs.Cmp.Lexicographic.{pointwise}
 use Rattle.line_text.specs.declared.forms.Bounds.{Bounds}
 use Rattle.line_text.specs.declared.forms.Reject.{Reject}
 use Rattle.line_text.specs.declared.forms.Reject.TheVariants.{Bad}
-use Rattle.line_text.specs.Words.{cut, words_of, is_digit, number_behind, AreLetters}
+use Rattle.line_text.specs.Words.{Cut, cut, words_of, is_digit, AreLetters}
 
 -- What the words of a line may be. A form stands behind some words: one of its literal words may follow, or a number
 -- within its bounds, and leads to another form; or the line ends there, and says so.
@@ -16,6 +17,8 @@ pub record Grammar (Form Line : Type 0) : Type 0 where
   pub says : Form → Option Line
   -- where a line stands that begins with a blank
   pub indented : Form → Form
+  -- the number that may come next ends at a dot, right behind which the next form's number stands
+  pub joined : Form → Bool
 
 abbrev pub then_leads : {A B : Type 0} → Result A Reject → (A → Result B Reject) → Result B Reject
 then_leads (Ok a) f = f a
@@ -38,7 +41,24 @@ bounded bounds number =
 abbrev pub number_leads : {Form Line : Type 0} → Grammar Form Line → Form → ℕ → Result Form Reject
 number_leads G form number = then_leads (or_bad (G.bounds form)) (λ bounds. then_leads (bounded bounds number) (λ bounded. Ok (G.after_number form bounded)))
 
--- where a number may come, a word that begins with a digit is one
+-- where a number leads at the end of its word
+abbrev pub ends_number : {Form Line : Type 0} → Grammar Form Line → Form → ℕ → Result Form Reject
+ends_number G form number = if G.joined form then Err Bad else number_leads G form number
+
+-- the byte is the dot behind the form's number
+abbrev pub is_dot : {Form Line : Type 0} → Grammar Form Line → Form → ℕ → Bool
+is_dot G form byte = G.joined form && byte == 46
+
+-- Where the rest of a word of numbers leads, and what its digits so far have written, if there were any.
+abbrev pub rest_leads : {Form Line : Type 0} → Grammar Form Line → Form → Option ℕ → List ℕ → Result Form Reject
+rest_leads G form None [] = Err Bad
+rest_leads G form (Some number) [] = ends_number G form number
+rest_leads G form None (byte ∷ bytes) = if is_digit byte then rest_leads G form (Some (0 * 10 + digit_value byte)) bytes else Err Bad
+rest_leads G form (Some number) (byte ∷ bytes) =
+    if is_digit byte then rest_leads G form (Some (number * 10 + digit_value byte)) bytes
+    else (if is_dot G form byte then then_leads (number_leads G form number) (λ next. rest_leads G next None bytes) else Err Bad)
+
+-- where a number may come, a word that begins with a digit is one, or several that are joined
 abbrev pub is_number : {Form Line : Type 0} → Grammar Form Line → Form → List ℕ → Bool
 is_number G form [] = false
 is_number G form (letter ∷ letters) = is_some (G.bounds form) && is_digit letter
@@ -46,7 +66,7 @@ is_number G form (letter ∷ letters) = is_some (G.bounds form) && is_digit lett
 -- where a word leads
 abbrev pub word_leads : {Form Line : Type 0} → Grammar Form Line → Form → List ℕ → Result Form Reject
 word_leads G form word =
-    if is_number G form word then then_leads (or_bad (number_behind 0 word)) (number_leads G form)
+    if is_number G form word then rest_leads G form None word
     else then_leads (or_bad (place_from 0 (G.words form) word)) (λ place. Ok (G.after_word form place))
 
 abbrev pub says_end : {Form Line : Type 0} → Grammar Form Line → Form → Result (Option Line) Reject
@@ -81,6 +101,14 @@ pub record IsBounds (bounds : Bounds) : Type 0 where
   pub fits : bounds.most < 2 ^ 64
   pub one_sided : (bounds.least ≡ 0) ⊎ (bounds.above ≡ Bad)
 
+-- what a line says from a form on, whose number stands at once
+abbrev pub says_number : {Form Line : Type 0} → Grammar Form Line → Form → Option ℕ → Cut → Result (Option Line) Reject
+says_number G form number cut = then_leads (rest_leads G form number cut.word) (λ next. says_words G next cut.others)
+
+-- some line goes on with a number of the form
+abbrev pub MayJoin : {Form Line : Type 0} → Grammar Form Line → Form → Type 0
+MayJoin {Form} {Line} G form = (rest : List ℕ) × (line : Line) × (says_number G form None (cut rest) ≡ Ok (Some line))
+
 -- What a grammar owes: from each of its forms some line goes on.
 pub record IsGrammar {Form Line : Type 0} (G : Grammar Form Line) (IsForm : Form → Type 0) : Type 0 where
   pub word : (form : Form) (index : ℕ) → IsForm form → index < length (G.words form) → IsForm (G.after_word form index)
@@ -89,6 +117,7 @@ pub record IsGrammar {Form Line : Type 0} (G : Grammar Form Line) (IsForm : Form
   pub indents_once : (form : Form) → G.indented (G.indented form) ≡ G.indented form
   pub letters : (form : Form) (index : ℕ) → IsForm form → index < length (G.words form) → AreLetters (word_at G form index)
   pub bounds : (form : Form) (bounds : Bounds) → IsForm form → G.bounds form ≡ Some bounds → IsBounds bounds
+  pub joins : (form : Form) (bounds : Bounds) (number : ℕ) → IsForm form → G.bounds form ≡ Some bounds → bounds.least ≤ number → number ≤ bounds.most → G.joined form ≡ true → MayJoin G (G.after_number form number)
   pub goes_on : (form : Form) → IsForm form → (rest : List ℕ) × (line : Line) × (says_words G form (words_of (cut rest)) ≡ Ok (Some line))
 
 -- a line says so behind some words, if it says anything

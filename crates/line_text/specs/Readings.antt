@@ -72,19 +72,23 @@ abbrev pub fault_of : Reject → ℕ → TextFault
 fault_of Bad line = BadLine line
 fault_of (TooLargeReject kind) line = TooLarge kind line
 
--- a line that says so was taken: the next begins, or the text has ended
-abbrev pub HasTaken : {Progress Form Line : Type 0} → Text Progress Form Line → Progress → Progress → Place Form → Option Line → Option (Place Form) → Type 0
-HasTaken T old new place said (Some next) =
-    (T.rules.ends said ≡ false) × (T.rules.counts said ≡ true → place.counted < T.rules.most) × (new ≡ T.rules.after old said)
-    × (next ≡ record { state = Lead (T.rules.start new); lines = place.lines + 1; counted = place.counted + count_of T said })
-HasTaken T old new place said None = (T.rules.ends said ≡ true) × (T.rules.counts said ≡ true → place.counted < T.rules.most) × (new ≡ T.rules.after old said)
+-- a line that says so was taken, behind so many that count: so many do then, or the text has ended
+abbrev pub HasTaken : {Progress Form Line : Type 0} → Text Progress Form Line → Progress → Progress → ℕ → Option Line → Option ℕ → Type 0
+HasTaken T old new counted said (Some more) =
+    (T.rules.ends said ≡ false) × (T.rules.counts said ≡ true → counted < T.rules.most) × (new ≡ T.rules.after old said) × (more ≡ counted + count_of T said)
+HasTaken T old new counted said None = (T.rules.ends said ≡ true) × (T.rules.counts said ≡ true → counted < T.rules.most) × (new ≡ T.rules.after old said)
+
+-- where the next line begins behind so many and one more, if so many count then
+abbrev pub next_place : {Progress Form Line : Type 0} → Text Progress Form Line → Progress → ℕ → Option ℕ → Option (Place Form)
+next_place T progress lines (Some counted) = Some (record { state = Lead (T.rules.start progress); lines = lines + 1; counted = counted })
+next_place T progress lines None = None
 
 -- the line counts, behind as many as may
-abbrev pub IsCountFault : {Progress Form Line : Type 0} → Text Progress Form Line → Place Form → Option Line → TextFault → Type 0
-IsCountFault T place said fault = (fault ≡ TooLarge T.rules.kind (place.lines + 1)) × (T.rules.counts said ≡ true) × (place.counted ≡ T.rules.most)
+abbrev pub IsCountFault : {Progress Form Line : Type 0} → Text Progress Form Line → ℕ → ℕ → Option Line → TextFault → Type 0
+IsCountFault T lines counted said fault = (fault ≡ TooLarge T.rules.kind (lines + 1)) × (T.rules.counts said ≡ true) × (counted ≡ T.rules.most)
 
-abbrev pub IsTakeFault : {Progress Form Line : Type 0} → Text Progress Form Line → Place Form → Option Line → TextFault → Type 0
-IsTakeFault T place said fault = (fault ≡ OutOfMemory) ⊎ IsCountFault T place said fault
+abbrev pub IsTakeFault : {Progress Form Line : Type 0} → Text Progress Form Line → ℕ → ℕ → Option Line → TextFault → Type 0
+IsTakeFault T lines counted said fault = (fault ≡ OutOfMemory) ⊎ IsCountFault T lines counted said fault
 
 -- no more lines count than there are, or may
 abbrev pub IsCounted : {Progress Form Line : Type 0} → Rules Progress Form Line → ℕ → ℕ → Type 0

@@ -4,11 +4,11 @@ use Rattle.line_text.specs.declared.forms.Bounds.{Bounds}
 use Rattle.line_text.specs.declared.forms.Reject.{Reject}
 use Rattle.line_text.specs.declared.forms.Reject.TheVariants.{Bad, TooLarge}
 use Rattle.line_text.specs.declared.states.State.{State}
-use Rattle.line_text.specs.declared.states.State.TheVariants.{Lead, Comment, Gap, Word, Number}
+use Rattle.line_text.specs.declared.states.State.TheVariants.{Lead, Comment, Gap, Word, Number, Joint}
 use Rattle.line_text.specs.declared.states.Step.{Step}
 use Rattle.line_text.specs.declared.states.Step.TheVariants.{Next, Ends, Rejects}
-use Rattle.line_text.specs.Words.{Cut, cut, words_of, number_behind}
-use Rattle.line_text.specs.Lines.{Grammar, then_leads, or_bad, number_leads, is_number, says_words, says_lead, line_says, word_at}
+use Rattle.line_text.specs.Words.{Cut, cut, words_of}
+use Rattle.line_text.specs.Lines.{Grammar, is_number, says_words, says_number, says_lead, line_says, word_at, MayJoin}
 
 -- what a line says whose rest, from the state on, is cut so
 abbrev pub says_from : {Form Line : Type 0} → Grammar Form Line → State Form → Cut → Result (Option Line) Reject
@@ -16,8 +16,8 @@ says_from G (Lead form) cut = says_lead G form cut.word cut.others
 says_from G Comment cut = Ok None
 says_from G (Gap form) cut = says_words G form (words_of cut)
 says_from G (Word form index at) cut = says_words G form ((take at (word_at G form index) ++ cut.word) ∷ cut.others)
-says_from G (Number form bounds value) cut =
-    then_leads (then_leads (or_bad (number_behind value cut.word)) (number_leads G form)) (λ next. says_words G next cut.others)
+says_from G (Number form bounds value) cut = says_number G form (Some value) cut
+says_from G (Joint form) cut = says_number G form None cut
 
 -- the rest of a line says so from the state on
 abbrev pub rest_says : {Form Line : Type 0} → Grammar Form Line → State Form → List ℕ → Result (Option Line) Reject
@@ -40,6 +40,7 @@ IsState G IsForm Comment = Unit {0}
 IsState G IsForm (Gap form) = IsForm form
 IsState G IsForm (Word form index at) = IsForm form × IsFront G form index at
 IsState G IsForm (Number form bounds value) = IsForm form × (G.bounds form ≡ Some bounds) × IsOpen bounds value
+IsState G IsForm (Joint form) = IsForm form × MayJoin G form
 
 -- However the line goes on, it says nothing and is no line: for this reason.
 abbrev pub IsStopped : {Line : Type 0} → (List ℕ → Result (Option Line) Reject) → Reject → Type 0

@@ -1,5 +1,5 @@
 -- A line is cut at its blanks into words.
-use Rattle.std.specs.Prelude.{◌≡◌, ◌≢◌, ℕ, ◌+◌, ◌*◌, ◌<◌, length, Bool, false, ◌==◌, ◌||◌, nat_lt, if◌then◌else◌, List, [], ◌∷◌, Option, Some, None}
+use Rattle.std.specs.Prelude.{◌≡◌, ◌≢◌, ℕ, ◌+◌, ◌*◌, ◌<◌, length, Bool, false, ◌==◌, ◌||◌, nat_lt, if◌then◌else◌, List, [], ◌∷◌, ◌++◌, Option, Some, None}
 use Rattle.std.specs.List.{AllByRecursion}
 use Rattle.std.specs.Char.{digit_value}
 
@@ -45,3 +45,13 @@ IsLetter byte = (is_blank byte ≡ false) × (byte ≢ 10)
 -- one letter or more
 abbrev pub AreLetters : List ℕ → Type 0
 AreLetters word = (0 < length word) × AllByRecursion IsLetter word
+
+-- words, each behind one space
+abbrev pub spaced : List (List ℕ) → List ℕ
+spaced [] = []
+spaced (word ∷ words) = 32 ∷ word ++ spaced words
+
+-- words with one space between two
+abbrev pub words_line : List (List ℕ) → List ℕ
+words_line [] = []
+words_line (word ∷ words) = word ++ spaced words

@@ -1,7 +1,7 @@
 ghost use Rattle.std.specs.Prelude.{◌≡◌, ℕ, ◌+◌, ◌<◌, ◌≤◌, ◌^◌, List, ◌++◌, ◌∷◌, [], Some, None, Ok, true, IfOk, IfSome, MatchResult, length, take};
 ghost use Rattle.line_text.specs.Lines.{line_says, IsSaid};
 ghost use Rattle.line_text.specs.Readings.{Stands, HasReached, HasReachedAt, IsFault, HasTaken, IsTakeFault, IsCountFault, fault_of, IsCounted};
-ghost use Rattle.line_text.specs.States.{IsPlaced};
+ghost use Rattle.line_text.specs.States.{IsPlaced, rest_says};
 ghost use Rattle.line_text.specs.Texts.{text_of, count_of};
 
 use crate::drafts::Draft;
@@ -96,16 +96,32 @@ fn take_lines<L: Copy, F: Form<L>, D: Draft<L, F>>(
     ensures led { (read : List ℕ) → length read + length piece.now ≤ 2 ^ 30 → Stands (text_of F.grammar D.rules) (read ++ take at piece.now) (D.progress draft.old) place
         → MatchResult result (λ taken. HasReachedAt (text_of F.grammar D.rules) read piece.now (D.progress draft.new) taken.place taken.at) (IsFault (text_of F.grammar D.rules) (read ++ piece.now) ⊥) }
 {
-    while let State::Lead { form } = place.state {
+    let State::Lead { form } = place.state else {
+        return Ok(Taken {
+            place: Some(place),
+            at,
+        });
+    };
+    let mut form = form;
+    let mut lines = place.lines;
+    let mut counted = place.counted;
+    while at < piece.len() {
         let Some(found) = scan_line(form, &piece[at..]) else {
             break;
         };
         at += found.1 + 1;
-        match take_line(draft, place, Some(found.0))? {
-            Some(next) => place = next,
+        match take_line(draft, lines, counted, Some(found.0))? {
+            Some(more) => counted = more,
             None => return Ok(Taken { place: None, at }),
         }
+        form = draft.start();
+        lines += 1;
     }
+    let place = Place {
+        state: State::Lead { form },
+        lines,
+        counted,
+    };
     Ok(Taken {
         place: Some(place),
         at,
@@ -129,13 +145,13 @@ fn take_byte<L: Copy, F: Form<L>, D: Draft<L, F>>(
 {
     match step_with(place.state, byte) {
         Step::Next(state) => Ok(Some(Place { state, ..place })),
-        Step::Ends(said) => take_line(draft, place, said),
+        Step::Ends(said) => end_line(draft, place, said),
         Step::Rejects(reject) => Err(fault_at(reject, place.lines)),
     }
 }
 
-/// Takes a line that says so, and answers where the next begins, unless the text has ended.
-fn take_line<L: Copy, F: Form<L>, D: Draft<L, F>>(
+/// Takes the line that ends here and says so, and answers where the next begins, unless the text has ended.
+fn end_line<L: Copy, F: Form<L>, D: Draft<L, F>>(
     draft: &mut D,
     place: Place<F>,
     said: Option<L>,
@@ -146,42 +162,67 @@ fn take_line<L: Copy, F: Form<L>, D: Draft<L, F>>(
     requires counted { IsCounted D.rules place.lines place.counted }
     ensures placed { IfOk result (λ next. IfSome next (λ after. IsPlaced F.grammar F.is_form (D.rules.start (D.progress draft.new)) after.state)) }
     ensures counted { IfOk result (λ next. IfSome next (λ after. IsCounted D.rules after.lines after.counted × (after.lines ≤ place.lines + 1))) }
-    ensures taken { MatchResult result (HasTaken (text_of F.grammar D.rules) (D.progress draft.old) (D.progress draft.new) place said) (IsTakeFault (text_of F.grammar D.rules) place said) }
+    ensures led { (read : List ℕ) → length read < 2 ^ 30 → Stands (text_of F.grammar D.rules) read (D.progress draft.old) place → rest_says F.grammar place.state [] ≡ Ok said
+        → MatchResult result (λ next. HasReached (text_of F.grammar D.rules) (read ++ 10 ∷ []) (D.progress draft.new) next) (IsFault (text_of F.grammar D.rules) (read ++ 10 ∷ []) ⊥) }
 {
-    let counted = counted_with(draft, place, said)?;
+    match take_line(draft, place.lines, place.counted, said)? {
+        Some(counted) => Ok(Some(Place {
+            state: State::Lead {
+                form: draft.start(),
+            },
+            lines: place.lines + 1,
+            counted,
+        })),
+        None => Ok(None),
+    }
+}
+
+/// Takes a line that says so, behind so many lines of which so many count, and answers how many count with
+/// it, unless the text has ended.
+#[inline(always)]
+fn take_line<L: Copy, F: Form<L>, D: Draft<L, F>>(
+    draft: &mut D,
+    lines: u64,
+    counted: u64,
+    said: Option<L>,
+) -> Result<Option<u64>, TextFault>
+    requires said { IsSaid F.grammar F.is_form said }
+    requires line { (line : List ℕ) × (line_says F.grammar (D.rules.start (D.progress draft.old)) line ≡ Ok said) }
+    requires lines { lines + 1 < 2 ^ 63 }
+    requires counted { IsCounted D.rules lines counted }
+    ensures counted { IfOk result (λ next. IfSome next (λ more. IsCounted D.rules (lines + 1) more)) }
+    ensures taken { MatchResult result (HasTaken (text_of F.grammar D.rules) (D.progress draft.old) (D.progress draft.new) counted said) (IsTakeFault (text_of F.grammar D.rules) lines counted said) }
+{
+    let counted = counted_with(draft, lines, counted, said)?;
     draft.take(said)?;
     if draft.ends(said) {
         return Ok(None);
     }
-    Ok(Some(Place {
-        state: State::Lead {
-            form: draft.start(),
-        },
-        lines: place.lines + 1,
-        counted,
-    }))
+    Ok(Some(counted))
 }
 
-/// How many lines count, with one that says so.
+/// How many lines count, with one that says so, behind so many lines of which so many count.
+#[inline(always)]
 pub fn counted_with<L: Copy, F: Form<L>, D: Draft<L, F>>(
     draft: &D,
-    place: Place<F>,
+    lines: u64,
+    counted: u64,
     said: Option<L>,
 ) -> Result<u64, TextFault>
-    requires lines { place.lines + 1 < 2 ^ 63 }
-    requires counted { IsCounted D.rules place.lines place.counted }
+    requires lines { lines + 1 < 2 ^ 63 }
+    requires counted { IsCounted D.rules lines counted }
     ensures { MatchResult result
-        (λ counted. (D.rules.counts said ≡ true → place.counted < D.rules.most) × (counted ≡ place.counted + count_of (text_of F.grammar D.rules) said) × IsCounted D.rules (place.lines + 1) counted)
-        (IsCountFault (text_of F.grammar D.rules) place said) }
+        (λ more. (D.rules.counts said ≡ true → counted < D.rules.most) × (more ≡ counted + count_of (text_of F.grammar D.rules) said) × IsCounted D.rules (lines + 1) more)
+        (IsCountFault (text_of F.grammar D.rules) lines counted said) }
 {
     if !draft.counts(said) {
-        return Ok(place.counted);
+        return Ok(counted);
     }
-    if place.counted == draft.most() {
+    if counted == draft.most() {
         return Err(TextFault::TooLarge {
             kind: draft.kind(),
-            line: place.lines + 1,
+            line: lines + 1,
         });
     }
-    Ok(place.counted + 1)
+    Ok(counted + 1)
 }

@@ -65,5 +65,10 @@ pub trait Form<L: Copy>: Copy {
     fn indented(self) -> Self
         ensures { result ≡ grammar.indented self };
 
+    /// Whether the number that may come next is joined to another: a dot ends it, right behind which the
+    /// number of the next form stands.
+    fn is_joined(self) -> bool
+        ensures { result ≡ grammar.joined self };
+
     ghost sound: { IsGrammar grammar is_form };
 }

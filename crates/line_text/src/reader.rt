@@ -140,7 +140,7 @@ fn past_limit<L: Copy, F: Form<L>, D: Draft<L, F>>(
     if !draft.ends(said) {
         return Err(limit);
     }
-    if counted_with(draft, place, said).is_err() {
+    if counted_with(draft, place.lines, place.counted, said).is_err() {
         return Err(limit);
     }
     draft.take(said)?;
@@ -167,7 +167,7 @@ fn at_end<L: Copy, F: Form<L>, D: Draft<L, F>>(
     if !draft.may_be_last(said) {
         return Err(bad);
     }
-    counted_with(draft, place, said)?;
+    counted_with(draft, place.lines, place.counted, said)?;
     draft.take(said)?;
     Ok(())
 }

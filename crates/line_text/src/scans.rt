@@ -1,12 +1,12 @@
-ghost use Rattle.std.specs.Prelude.{◌≡◌, ◌≢◌, ◌≤◌, Some, IfSome, ◌+◌, ◌<◌, ◌^◌, true, drop, length, take};
+ghost use Rattle.std.specs.Prelude.{◌≡◌, ◌≢◌, ◌≤◌, Some, None, IfSome, ◌+◌, ◌<◌, ◌^◌, true, drop, length, take};
 ghost use Rattle.std.specs.List.{AllByRecursion};
-ghost use Rattle.line_text.specs.Scans.{Goes, StandsThere, StandsLine};
+ghost use Rattle.line_text.specs.Scans.{Goes, StandsThere, StandsWord, StandsLine};
 ghost use Rattle.line_text.specs.States.{IsState, IsFront, IsOpen};
 ghost use Rattle.line_text.specs.Lines.{word_at};
 ghost use Rattle.line_text.specs.Words.{is_digit, number_behind};
 
 use crate::forms::{Bounds, Form};
-use crate::states::{State, is_blank, is_digit, with_digit};
+use crate::states::{State, is_blank, is_digit, place_of, with_digit};
 
 /// Goes over bytes at the front with which the line goes on, and answers where they lead and how many
 /// they are. There may be more. What comes often is gone over here, many bytes at once.
@@ -26,6 +26,7 @@ pub fn scan<L: Copy, F: Form<L>>(state: State<F>, bytes: &[u8]) -> (State<F>, us
         State::Gap { form } => scan_gap(form, bytes),
         State::Lead { form } => scan_lead(form, bytes),
         State::Word { form, index, at } => scan_more_letters(form, index, at, bytes),
+        State::Joint { form } => (State::Joint { form }, 0),
     }
 }
 
@@ -156,8 +157,8 @@ fn scan_letters<L: Copy, F: Form<L>>(form: F, index: usize, at: usize, bytes: &[
     }
 }
 
-/// Goes over a line of numbers alone, and answers what it says and how many bytes it has before its LF.
-/// Other lines are left to be gone over byte by byte.
+/// Goes over a whole line, and answers what it says and how many bytes it has before its LF. A line that
+/// begins with a blank or is none is left to be gone over byte by byte.
 #[inline(always)]
 pub fn scan_line<L: Copy, F: Form<L>>(form: F, bytes: &[u8]) -> Option<(L, usize)>
     requires { F.is_form form }
@@ -166,13 +167,11 @@ pub fn scan_line<L: Copy, F: Form<L>>(form: F, bytes: &[u8]) -> Option<(L, usize
     let mut form = form;
     let mut at = 0;
     while at < bytes.len() {
-        let bounds = form.bounds()?;
-        let (value, count) = scan_digits(bounds, 0, &bytes[at..]);
+        let count = scan_word(&mut form, &bytes[at..])?;
         at += count;
-        if count == 0 || value < bounds.least || at >= bytes.len() {
+        if at >= bytes.len() {
             return None;
         }
-        form = form.after_number(value);
         if bytes[at] == b'\n' {
             let line = form.says()?;
             return Some((line, at));
@@ -183,6 +182,78 @@ pub fn scan_line<L: Copy, F: Form<L>>(form: F, bytes: &[u8]) -> Option<(L, usize
         at += 1;
     }
     None
+}
+
+/// Goes over a whole word, and answers how many letters it has. What stands behind it isn't looked at.
+#[inline(always)]
+fn scan_word<L: Copy, F: Form<L>>(form: &mut F, bytes: &[u8]) -> Option<usize>
+    requires { F.is_form form.old }
+    ensures { IfSome result (λ count. StandsWord F.grammar F.is_form form.old bytes.now form.new count) }
+{
+    match form.bounds() {
+        Some(bounds) => scan_numeral(form, bounds, bytes),
+        None => scan_literal(form, bytes),
+    }
+}
+
+/// Goes over a word of a number, or of several that are joined.
+#[inline(always)]
+fn scan_numeral<L: Copy, F: Form<L>>(form: &mut F, bounds: Bounds, bytes: &[u8]) -> Option<usize>
+    requires form { F.is_form form.old }
+    requires own { F.grammar.bounds form.old ≡ Some bounds }
+    ensures { IfSome result (λ count. StandsWord F.grammar F.is_form form.old bytes.now form.new count) }
+{
+    let mut bounds = bounds;
+    let mut at = 0;
+    while at < bytes.len() {
+        let (value, count) = scan_digits(bounds, 0, &bytes[at..]);
+        if count == 0 || value < bounds.least {
+            return None;
+        }
+        let joined = form.is_joined();
+        *form = form.after_number(value);
+        at += count;
+        if !joined {
+            return Some(at);
+        }
+        if at >= bytes.len() || bytes[at] != b'.' {
+            return None;
+        }
+        at += 1;
+        bounds = form.bounds()?;
+    }
+    None
+}
+
+/// Goes over a literal word: letters up to a blank or the end of the line, if they are one.
+#[inline(always)]
+fn scan_literal<L: Copy, F: Form<L>>(form: &mut F, bytes: &[u8]) -> Option<usize>
+    requires form { F.is_form form.old }
+    requires none { F.grammar.bounds form.old ≡ None }
+    ensures { IfSome result (λ count. StandsWord F.grammar F.is_form form.old bytes.now form.new count) }
+{
+    let count = count_letters(bytes);
+    if count == 0 || bytes[0] == b'#' {
+        return None;
+    }
+    let place = place_of(*form, &bytes[..count])?;
+    *form = form.after_word(place);
+    Some(count)
+}
+
+/// How many letters stand at the front.
+#[inline(always)]
+fn count_letters(bytes: &[u8]) -> usize
+    ensures { result ≤ length bytes.now }
+{
+    let mut count = 0;
+    for &byte in bytes {
+        if is_blank(byte) || byte == b'\n' {
+            return count;
+        }
+        count += 1;
+    }
+    count
 }
 
 /// Goes over bytes of a comment.

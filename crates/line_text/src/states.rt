@@ -1,6 +1,6 @@
-ghost use Rattle.std.specs.Prelude.{◌≡◌, ◌≢◌, ◌<◌, ◌≤◌, ◌++◌, ◌∷◌, ◌*◌, ℕ, [], Some, None, Ok, true, false, MatchOption, MatchResult, IfOk, length, take, IfSome, IsTrue, OnSome, ◌↔◌, ◌+◌, ◌^◌};
+ghost use Rattle.std.specs.Prelude.{◌≡◌, ◌≢◌, ◌<◌, ◌≤◌, ◌++◌, ◌∷◌, ◌*◌, ℕ, [], Some, None, Ok, Err, true, false, MatchOption, MatchResult, IfOk, length, take, IfSome, IsTrue, OnSome, ◌↔◌, ◌+◌, ◌^◌};
 ghost use Rattle.std.specs.Bool.{OnTrue};
-ghost use Rattle.line_text.specs.Lines.{place_from, is_number, word_at, IsSaid};
+ghost use Rattle.line_text.specs.Lines.{place_from, is_number, ends_number, word_at, IsSaid};
 ghost use Rattle.line_text.specs.States.{IsState, IsFront, IsOpen, Takes, Leads, RejectsByte, rest_says};
 ghost use Rattle.line_text.specs.Words.{is_blank, is_digit};
 ghost use Rattle.std.specs.Char.{digit_value};
@@ -20,6 +20,8 @@ pub enum State<F> {
     Word { form: F, index: usize, at: usize },
     /// Behind a digit of a number.
     Number { form: F, bounds: Bounds, value: u64 },
+    /// Behind the dot that joins the number of the form to the one before.
+    Joint { form: F },
 }
 
 /// What a byte does to a line.
@@ -50,6 +52,7 @@ pub fn step_with<L: Copy, F: Form<L>>(state: State<F>, byte: u8) -> Step<F, L>
             bounds,
             value,
         } => from_number(form, bounds, value, byte),
+        State::Joint { form } => from_joint(form, byte),
     }
 }
 
@@ -67,6 +70,7 @@ fn line_end<L: Copy, F: Form<L>>(state: State<F>) -> Step<F, L>
             bounds,
             value,
         } => number_end(form, bounds, value),
+        State::Joint { .. } => Step::Rejects(Reject::Bad),
     }
 }
 
@@ -232,9 +236,11 @@ fn word_behind<L: Copy, F: Form<L>>(form: F, index: usize, at: usize) -> Option<
 }
 
 /// The place of a word among the literal words of the form.
-fn place_of<L: Copy, F: Form<L>>(form: F, word: &[u8]) -> Option<usize>
+#[inline(always)]
+pub fn place_of<L: Copy, F: Form<L>>(form: F, word: &[u8]) -> Option<usize>
     ensures value { result ≡ place_from 0 (F.grammar.words form) word.now }
     ensures within { IfSome result (λ place. place < length (F.grammar.words form)) }
+    ensures word { IfSome result (λ place. word_at F.grammar form place ≡ word.now) }
 {
     for index in 0..form.word_count() {
         if form.word(index) == word {
@@ -271,7 +277,7 @@ fn from_number<L: Copy, F: Form<L>>(form: F, bounds: Bounds, value: u64, byte: u
         };
     }
     if !is_digit(byte) {
-        return Step::Rejects(Reject::Bad);
+        return joint_behind(form, bounds, value, byte);
     }
     match with_digit(bounds, value, byte) {
         Ok(value) => Step::Next(State::Number {
@@ -283,14 +289,51 @@ fn from_number<L: Copy, F: Form<L>>(form: F, bounds: Bounds, value: u64, byte: u
     }
 }
 
-/// Where the number leads.
+/// Goes on behind the dot that ends a number, if it is joined to another.
+fn joint_behind<L: Copy, F: Form<L>>(form: F, bounds: Bounds, value: u64, byte: u8) -> Step<F, L>
+    requires state { IsState F.grammar F.is_form (State.Number form bounds value) }
+    requires within { byte ≢ 10 }
+    requires letter { is_blank byte ≡ false }
+    requires other { is_digit byte ≡ false }
+    ensures { Takes F.grammar F.is_form (State.Number form bounds value) byte result }
+{
+    if byte != b'.' || !form.is_joined() || value < bounds.least {
+        return Step::Rejects(Reject::Bad);
+    }
+    Step::Next(State::Joint {
+        form: form.after_number(value),
+    })
+}
+
+/// Goes on with the first digit of a number that is joined to the one before.
+fn from_joint<L: Copy, F: Form<L>>(form: F, byte: u8) -> Step<F, L>
+    requires state { IsState F.grammar F.is_form (State.Joint form) }
+    requires within { byte ≢ 10 }
+    ensures { Takes F.grammar F.is_form (State.Joint form) byte result }
+{
+    if is_digit(byte) {
+        if let Some(bounds) = form.bounds() {
+            return match with_digit(bounds, 0, byte) {
+                Ok(value) => Step::Next(State::Number {
+                    form,
+                    bounds,
+                    value,
+                }),
+                Err(reject) => Step::Rejects(reject),
+            };
+        }
+    }
+    Step::Rejects(Reject::Bad)
+}
+
+/// Where the number leads at the end of its word.
 fn number_behind<L: Copy, F: Form<L>>(form: F, bounds: Bounds, value: u64) -> Option<F>
     requires { IsState F.grammar F.is_form (State.Number form bounds value) }
     ensures { MatchOption result
-        (value < bounds.least)
-        (λ next. (bounds.least ≤ value) × F.is_form next × (next ≡ F.grammar.after_number form value)) }
+        (ends_number F.grammar form value ≡ Err Reject.Bad)
+        (λ next. F.is_form next × (ends_number F.grammar form value ≡ Ok next)) }
 {
-    if value < bounds.least {
+    if form.is_joined() || value < bounds.least {
         return None;
     }
     Some(form.after_number(value))

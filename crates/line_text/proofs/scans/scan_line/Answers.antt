@@ -1,10 +1,7 @@
-use Rattle.std.proofs.Common.{[], ◌+◌, ◌<◌, ◌≤◌, get_or, Some, Ok, refl, ap, sym, ◌∙◌, arith, subst, inl, inr}
-use Rattle.line_text.specs.declared.states.State.TheVariants.{Lead, Gap, Number}
+use Rattle.std.proofs.Common.{◌+◌, get_or, Some, Ok, refl, ap, sym, ◌∙◌, arith, inl, inr}
+use Rattle.line_text.specs.declared.states.State.TheVariants.{Lead, Gap}
 use Rattle.line_text.specs.Lines.{then_leads, or_bad}
-use Rattle.line_text.specs.Scans.{Goes}
-use Rattle.line_text.specs.States.{rest_says}
-use Rattle.line_text.proofs.Runs.{goes_nowhere, goes_byte, begun_number}
-use Rattle.line_text.proofs.Steps.{number_blank, number_ends}
+use Rattle.line_text.proofs.Runs.{goes_nowhere, goes_byte, begun_word}
 use Rattle.line_text.proofs.scans.scan_line.Goals as goal
 
 pub loop-at-init : goal.loop-at-init
@@ -18,21 +15,12 @@ pub returns-then-bytes-at-eq10 : goal.returns-then-bytes-at-eq10
 returns-then-bytes-at-eq10 g c =
     let G = g.F.Form.grammar in
     let inv = c.loop-at.invariant in
-    let form = c.loop-at.form in
-    let bounds = c.in_ok-bounds.bounds in
-    let scanned = c.scan_digits-value.ensures in
-    let value = c.scan_digits-value.result.0 in
-    let count = c.scan_digits-value.result.1 in
-    let own = sym c.bounds.ensures ∙ c.in_ok-bounds.was in
-    let some : 0 < count = omega arith in
-    let least : bounds.least ≤ value = omega arith in
+    let stands = c.in_ok-count.ensures in
     record {
-      next = Number form bounds value;
-      is_state = (inv.is_form, own, scanned.open);
-      goes = begun_number G g.F.Form.is_form c.args.form form bounds value count c.loop-at.at c.args.bytes.now inv.begun own some scanned.count scanned.digits scanned.value;
-      says = number_ends G g.F.Form.is_form form bounds own value least scanned.open.0
-          ∙ (ap (λ f. rest_says G (Gap f) []) (sym c.after_number-form.ensures)
-          ∙ ap (λ o. then_leads (or_bad o) (λ line. Ok (Some line))) (sym c.says.ensures ∙ c.in_ok-line.was));
+      next = stands.state;
+      is_state = stands.is_state;
+      goes = begun_word G g.F.Form.is_form c.args.form c.loop-at.form c.scan_word.new.form c.in_ok-count.count c.loop-at.at c.args.bytes.now inv.begun stands;
+      says = stands.ends ∙ ap (λ o. then_leads (or_bad o) (λ line. Ok (Some line))) (sym c.says.ensures ∙ c.in_ok-line.was);
       within = omega arith;
       ends = c.if-bytes-at-eq10.true;
     }
@@ -41,24 +29,17 @@ pub loop-at-preserved : goal.loop-at-preserved
 loop-at-preserved g c =
     let G = g.F.Form.grammar in
     let inv = c.loop-at.invariant in
-    let form = c.loop-at.form in
-    let bounds = c.in_ok-bounds.bounds in
-    let scanned = c.scan_digits-value.ensures in
-    let value = c.scan_digits-value.result.0 in
-    let count = c.scan_digits-value.result.1 in
-    let own = sym c.bounds.ensures ∙ c.in_ok-bounds.was in
-    let some : 0 < count = omega arith in
-    let least : bounds.least ≤ value = omega arith in
+    let next = c.scan_word.new.form in
+    let count = c.in_ok-count.count in
+    let stands = c.in_ok-count.ensures in
     record {
       within = omega arith;
-      is_form = subst g.F.Form.is_form (sym c.after_number-form.ensures) (g.met.F.Form.sound.number form bounds value inv.is_form own least scanned.open.0);
+      is_form = stands.is_form;
       begun = record {
-        state = Gap c.after_number-form.result;
+        state = Gap next;
         begun = inr refl;
-        goes = subst (λ f. Goes G (Lead c.args.form) c.args.bytes.now (c.loop-at.at + count + 1) (Gap f)) (sym c.after_number-form.ensures)
-            (goes_byte G g.F.Form.is_form (Lead c.args.form) (Number form bounds value) (Gap (G.after_number form value)) c.args.bytes.now (c.loop-at.at + count)
-            (begun_number G g.F.Form.is_form c.args.form form bounds value count c.loop-at.at c.args.bytes.now inv.begun own some scanned.count scanned.digits scanned.value)
-            (omega arith) c.if-bytes-at-eq10.false
-            (number_blank G g.F.Form.is_form form bounds own value (get_or c.args.bytes.now (c.loop-at.at + count) 0) (sym c.if-not-is_blank.ensures) least scanned.open.0));
+        goes = goes_byte G g.F.Form.is_form (Lead c.args.form) stands.state (Gap next) c.args.bytes.now (c.loop-at.at + count)
+            (begun_word G g.F.Form.is_form c.args.form c.loop-at.form next count c.loop-at.at c.args.bytes.now inv.begun stands)
+            (omega arith) c.if-bytes-at-eq10.false (stands.blank (get_or c.args.bytes.now (c.loop-at.at + count) 0) (sym c.if-not-is_blank.ensures));
       };
     }
