@@ -1,3 +1,4 @@
 pub mod Ids
 pub mod Readings
 pub mod Written
+pub mod WrittenWeights

@@ -8,16 +8,16 @@ use Rattle.line_text.specs.Lines.{line_says}
 use Rattle.line_text.specs.States.{rest_says}
 use Rattle.line_text.specs.declared.states.State.TheVariants.{Gap}
 use Rattle.line_text.specs.Texts.{Standing, said_at, standing, IsOpen}
-use Rattle.line_text.proofs.Runs.{digits_within, lead_leads, first_leads}
+use Rattle.line_text.proofs.Runs.{digits_within, all_append, lead_leads, first_leads}
 use Rattle.line_text.proofs.Standings.{open_nothing}
-use Rattle.line_text.proofs.Steps.{number_blank, number_ends}
+use Rattle.line_text.proofs.Steps.{ends_in, number_blank, number_ends}
 use Rattle.line_text.proofs.Written.{decimal_digits, written_stands, written_open}
 use Rattle.edge_text.specs.declared.drafts.Version.{Version}
 use Rattle.edge_text.specs.declared.drafts.Version.TheVariants.{Open, One}
 use Rattle.edge_text.specs.declared.edges.Edge.{Edge}
 use Rattle.edge_text.specs.declared.forms.EdgeLine.TheVariants.{Edge as AnEdge}
 use Rattle.edge_text.specs.declared.forms.Spot.{Spot}
-use Rattle.edge_text.specs.declared.forms.Spot.TheVariants.{First, From, To}
+use Rattle.edge_text.specs.declared.forms.Spot.TheVariants.{First, From, To, Ends}
 use Rattle.edge_text.specs.Drawn.{Drawn}
 use Rattle.edge_text.specs.Edges.{HasIds, HaveIds}
 use Rattle.edge_text.specs.EdgeText.{edge_rules, edge_text, plain_drawn, IsEdgeText}
@@ -38,18 +38,15 @@ says_ids spot weighted edge own next ids =
     let one = decimal_digits edge.from (omega (arith, ids.0)) in
     let two = decimal_digits edge.to (omega (arith, ids.1)) in
     lead_leads edge_grammar IsSpot spot id_bounds own (decimal edge.from) edge.from one.0 one.1 one.2 (32 ∷ decimal edge.to)
-    ∙ (number_blank edge_grammar IsSpot spot id_bounds own edge.from 32 refl (omega arith) (omega (arith, ids.0)) (decimal edge.to)
+    ∙ (number_blank edge_grammar IsSpot spot id_bounds own edge.from 32 (after_number spot edge.from) refl (ends_in edge_grammar IsSpot spot id_bounds own edge.from refl (omega arith) (omega (arith, ids.0))) (decimal edge.to)
     ∙ (ap (λ f. rest_says edge_grammar (Gap f) (decimal edge.to)) next
     ∙ (ap (λ (b : List ℕ). rest_says edge_grammar (Gap (To weighted edge.from)) b) (sym (append-nil (decimal edge.to)))
     ∙ (first_leads edge_grammar IsSpot (To weighted edge.from) id_bounds refl (decimal edge.to) edge.to two.0 two.1 two.2 []
-    ∙ number_ends edge_grammar IsSpot (To weighted edge.from) id_bounds refl edge.to (omega arith) (omega (arith, ids.1))))))
+    ∙ number_ends edge_grammar IsSpot (To weighted edge.from) id_bounds refl edge.to (Ends weighted edge.from edge.to)
+    (ends_in edge_grammar IsSpot (To weighted edge.from) id_bounds refl edge.to refl (omega arith) (omega (arith, ids.1)))))))
 
 same_edge : (edge : Edge) → edge.weight ≡ 1 → one_of edge ≡ edge
 same_edge edge one = ap (λ w. record { from = edge.from; to = edge.to; weight = w }) (sym one)
-
-all_append : (front rest : List ℕ) → AllByRecursion (λ byte. byte ≢ 10) front → AllByRecursion (λ byte. byte ≢ 10) rest → AllByRecursion (λ byte. byte ≢ 10) (front ++ rest)
-all_append [] rest all others = others
-all_append (byte ∷ front) rest all others = (all.0, all_append front rest all.1 others)
 
 letters_within : (edge : Edge) → HasIds edge → AllByRecursion (λ byte. byte ≢ 10) (letters_of edge)
 letters_within edge ids =
@@ -76,8 +73,8 @@ module _ (read : List ℕ) (done : List Edge) (count : ℕ) (edge : Edge) (ids :
       let drawn : Drawn = record { edges = done; version = Open } in
       let says = says_edge First refl refl in
       subst (λ (l : List ℕ). Stood (read ++ l) (done ++ edge ∷ []) One (count + 1)) (sym (whole_line edge)) (
-        written_stands edge_text read (letters_of edge) drawn (Some (AnEdge edge)) count count stood.0 stood.1 (letters_within edge ids) says refl (λ is. few) room,
-        written_open edge_text read (letters_of edge) drawn (Some (AnEdge edge)) count count stood.0 stood.1 (letters_within edge ids) says refl (λ is. few) room,
+        written_stands edge_text read (letters_of edge) drawn (Some (AnEdge edge)) count count stood.0 stood.1 (letters_within edge ids) says (omega (arith, room)),
+        written_open edge_text read (letters_of edge) drawn (Some (AnEdge edge)) count count stood.0 stood.1 (letters_within edge ids) says (omega (arith, room)) refl (λ is. few) room,
       )
 
   next_line : Stood read done One count → Stood (read ++ edge_line edge) (done ++ edge ∷ []) One (count + 1)
@@ -85,8 +82,8 @@ module _ (read : List ℕ) (done : List Edge) (count : ℕ) (edge : Edge) (ids :
       let drawn : Drawn = record { edges = done; version = One } in
       let says = says_edge (From false) refl refl in
       subst (λ (l : List ℕ). Stood (read ++ l) (done ++ edge ∷ []) One (count + 1)) (sym (whole_line edge)) (
-        written_stands edge_text read (letters_of edge) drawn (Some (AnEdge edge)) count count stood.0 stood.1 (letters_within edge ids) says refl (λ is. few) room,
-        written_open edge_text read (letters_of edge) drawn (Some (AnEdge edge)) count count stood.0 stood.1 (letters_within edge ids) says refl (λ is. few) room,
+        written_stands edge_text read (letters_of edge) drawn (Some (AnEdge edge)) count count stood.0 stood.1 (letters_within edge ids) says (omega (arith, room)),
+        written_open edge_text read (letters_of edge) drawn (Some (AnEdge edge)) count count stood.0 stood.1 (letters_within edge ids) says (omega (arith, room)) refl (λ is. few) room,
       )
 
 line_short : (edge : Edge) → HasIds edge → length (edge_line edge) ≤ 18

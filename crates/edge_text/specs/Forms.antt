@@ -58,7 +58,7 @@ indented First = From false
 indented spot = spot
 
 abbrev pub edge_grammar : Grammar Spot EdgeLine
-edge_grammar = record { words = words_of; after_word = after_word; bounds = bounds_of; after_number = after_number; says = says_of; indented = indented }
+edge_grammar = record { words = words_of; after_word = after_word; bounds = bounds_of; after_number = after_number; says = says_of; indented = indented; joined = λ spot. false }
 
 -- what was read keeps the limits
 abbrev pub IsSpot : Spot → Type 0

@@ -1,5 +1,6 @@
 -- The forms of a line of an edge list are a grammar.
 use Rattle.std.proofs.Common.{◌≡◌, ℕ, zero, suc, ◌-◌, ◌<◌, ◌≤◌, ◌^◌, true, false, List, [], ◌∷◌, length, Option, Some, None, Ok, codes, refl, ap, arith, subst, inl}
+use Rattle.std.proofs.lemmas.Bool.{false≢true}
 use Rattle.std.proofs.lemmas.Option.{none-some, same_Some}
 use Rattle.line_text.specs.declared.forms.Bounds.{Bounds}
 use Rattle.line_text.specs.Lines.{IsGrammar, IsBounds, says_words, word_at}
@@ -111,5 +112,6 @@ edge_grammar_sound = record {
   indents_once = once;
   letters = letters;
   bounds = bounds_sound;
+  joins = λ spot bounds number is own least most joined. absurd (false≢true joined);
   goes_on = goes_on;
 }

@@ -52,6 +52,7 @@ impl Form<EdgeLine> for Spot {
 
     ghost sound = { edge_grammar_sound };
 
+    #[inline(always)]
     fn word_count(self) -> usize {
         match self {
             Spot::First | Spot::Version => 1,
@@ -60,6 +61,7 @@ impl Form<EdgeLine> for Spot {
         }
     }
 
+    #[inline(always)]
     fn word(self, index: usize) -> &'static [u8] {
         match self {
             Spot::First => b"%pgas",
@@ -69,6 +71,7 @@ impl Form<EdgeLine> for Spot {
         }
     }
 
+    #[inline(always)]
     fn after_word(self, index: usize) -> Self {
         match self {
             Spot::First => Spot::Version,
@@ -78,6 +81,7 @@ impl Form<EdgeLine> for Spot {
         }
     }
 
+    #[inline(always)]
     fn bounds(self) -> Option<Bounds> {
         match self {
             Spot::First | Spot::From { .. } | Spot::To { .. } => Some(ID),
@@ -86,6 +90,7 @@ impl Form<EdgeLine> for Spot {
         }
     }
 
+    #[inline(always)]
     fn after_number(self, number: u64) -> Self {
         match self {
             Spot::First => Spot::To {
@@ -116,6 +121,7 @@ impl Form<EdgeLine> for Spot {
         }
     }
 
+    #[inline(always)]
     fn says(self) -> Option<EdgeLine> {
         match self {
             Spot::Head { both } => Some(EdgeLine::Head { both }),
@@ -131,10 +137,16 @@ impl Form<EdgeLine> for Spot {
         }
     }
 
+    #[inline(always)]
     fn indented(self) -> Self {
         match self {
             Spot::First => Spot::From { weighted: false },
             _ => self,
         }
+    }
+
+    #[inline(always)]
+    fn is_joined(self) -> bool {
+        false
     }
 }

@@ -2,7 +2,8 @@
 ghost use Rattle.std.specs.Prelude.{ℕ, List};
 ghost use Rattle.edge_text.specs.declared.edges.Edge.{Edge};
 ghost use Rattle.edge_text.specs.Reading.{MeansOne};
-ghost use Rattle.edge_text.specs.Written.{ReadBack};
+ghost use Rattle.edge_text.specs.Edges.{PlainEdges};
+ghost use Rattle.edge_text.specs.Written.{ReadBack, WeightedReadBack};
 
 /// An input is the text of one list of edges, or is refused at one place for one cause, and never
 /// both. So the answer of the reader to a whole input is a function of it, but for failures and want
@@ -17,4 +18,11 @@ pub fn inputs_mean_one()
 #[tactic(auto, using(crate::proofs::Written::edges_read_back))]
 pub fn written_edges_read_back()
     ensures { (edges : List Edge) → ReadBack edges }
+{}
+
+/// A head line, and behind it what `write_weighted` writes of edges, at most as many as a list may have, reads back as the list
+/// of these edges with their weights, in the direction of the head line.
+#[tactic(auto, using(crate::proofs::WrittenWeights::weighted_read_back))]
+pub fn weighted_lists_read_back()
+    ensures { (list : PlainEdges) → WeightedReadBack list }
 {}

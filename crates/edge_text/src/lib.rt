@@ -13,10 +13,10 @@ mod reader;
 mod writer;
 
 pub use edges::{Edge, EdgeList, GREATEST_ID};
-pub use laws::inputs_mean_one;
+pub use laws::{inputs_mean_one, weighted_lists_read_back, written_edges_read_back};
 pub use line_text::TextFault as EdgeFault;
 pub use reader::read_edges;
-pub use writer::write_edge;
+pub use writer::{write_edge, write_weighted};
 
 #[cfg(test)]
 mod tests;

@@ -1,4 +1,4 @@
-use crate::{Edge, EdgeFault, EdgeList, read_edges, write_edge};
+use crate::{Edge, EdgeFault, EdgeList, read_edges, write_edge, write_weighted};
 use shared_io::{SureSource, TextSource, TooKind};
 use std::alloc::{AllocError, Global};
 use std::test::Fail;
@@ -189,5 +189,29 @@ fn a_line_may_lie_across_pieces(rt: HostRuntime) -> Result<(), Fail> {
     let list = read_edges(rt.alloc(), &mut SureSource::new(text))?;
     assert_eq!(rt; list.edges.len(), 10000);
     assert!(rt; list.edges.iter().all(|edge| *edge == one));
+    Ok(())
+}
+
+#[test]
+fn an_edge_is_written_with_its_weight(rt: HostRuntime) -> Result<(), Fail> {
+    let longest = Edge {
+        from: 16777215,
+        to: 16777215,
+        weight: 4294967295,
+    };
+    let line = write_weighted(longest);
+    assert_eq!(rt; line.as_str(), "16777215 16777215 4294967295\n");
+    let least = Edge {
+        from: 0,
+        to: 7,
+        weight: 0,
+    };
+    assert_eq!(rt; write_weighted(least).as_str(), "0 7 0\n");
+    let mut text = b"%pgas 2 both\n".to_vec(rt.alloc())?;
+    text.extend_from_slice(line.as_bytes())?;
+    text.extend_from_slice(write_weighted(least).as_bytes())?;
+    let list = read_edges(rt.alloc(), &mut SureSource::new(text))?;
+    assert!(rt; list.both);
+    assert_eq!(rt; list.edges.as_slice(), [longest, least].as_slice());
     Ok(())
 }
