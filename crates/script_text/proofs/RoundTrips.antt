@@ -1,138 +1,71 @@
 -- What is written reads as the same script.
-use Rattle.std.proofs.Common.{◌≡◌, ◌≢◌, ℕ, ◌+◌, ◌<◌, ◌≤◌, ◌^◌, Bool, true, false, ◌&&◌, nat_lt, List, [], ◌∷◌, ◌++◌, length, replicate, sum_by, slice_set, All, Option, Some, None, decimal, refl, ap, sym, ◌∙◌, subst, arith, inl, append-nil, append_assoc}
+use Rattle.std.proofs.Common.{◌≡◌, ◌≢◌, ℕ, ◌+◌, ◌-◌, ◌<◌, ◌≤◌, ◌^◌, Bool, true, false, if◌then◌else◌, List, [], ◌∷◌, ◌++◌, length, replicate, sum_by, slice_set, All, Option, Some, None, refl, ap, sym, ◌∙◌, subst, arith, inr, append-nil, append_assoc, length-append}
 use Rattle.std.specs.List.{flat_map}
-use Rattle.std.proofs.lemmas.Bool.{and_parts, ltb-true}
-use Rattle.std.proofs.lemmas.Fmt.{decimal_is_IsNumeral}
+use Rattle.std.proofs.lemmas.Bool.{false≢true}
 use Rattle.std.proofs.lemmas.List.{length_push, set_at, get_or_at}
 use Rattle.std.proofs.lemmas.List.Elements.{All-head, All-tail}
-use Rattle.std.proofs.lemmas.List.Sums.{sum_by-append, sum_by-cons}
-use Rattle.std.proofs.lemmas.Option.{same_Some}
-use Rattle.seq_objects.specs.declared.lists.ListCall.TheVariants.{Read, Write, Swap, Add, Grow, Len}
-use Rattle.seq_objects.specs.declared.bags.BagCall.TheVariants.{Add as Put, Remove}
-use Rattle.seq_objects.specs.declared.deques.DequeCall.TheVariants.{PushBack, PushFront, PopBack, PopFront}
+use Rattle.std.proofs.lemmas.List.Sums.{sum_by-cons}
+use Rattle.line_text.specs.Texts.{Standing, standing, count_of, IsOpen as TextIsOpen}
+use Rattle.line_text.specs.Words.{words_line}
+use Rattle.line_text.proofs.Standings.{open_nothing}
+use Rattle.line_text.proofs.Written.{front_stands, front_open, front_says, written_stands, written_open}
 use Rattle.script_text.specs.declared.scripts.ObjectLine.{ObjectLine}
-use Rattle.script_text.specs.declared.scripts.ObjectLine.TheVariants.{List as AList, Bag as ABag, Deque as ADeque}
 use Rattle.script_text.specs.declared.scripts.Call.{Call}
-use Rattle.script_text.specs.declared.scripts.Call.TheVariants.{List as OfList, Bag as OfBag, Deque as OfDeque}
 use Rattle.script_text.specs.declared.lines.Line.{Line}
 use Rattle.script_text.specs.declared.lines.Line.TheVariants.{Pgas, Object, Callers, Caller, Round, Call as ACall, End}
 use Rattle.script_text.specs.declared.lines.Stage.TheVariants.{InRound}
-use Rattle.script_text.proofs.Tables.{few_callers}
-use Rattle.script_text.specs.Lines.{IsObject, IsCallers, IsCallOf, HasSmallNumbers, MayCome, line_tokens}
-use Rattle.script_text.specs.Scripts.{PlainScript, written_words, spaced, written_line, written_calls, written_callers, written_rounds, written, IsRoundOf, counted_lines, IsValid}
-use Rattle.script_text.specs.ScriptText.{Progress, beginning, with_call, line_after, after, AreLines, counts, HasScript}
-use Rattle.script_text.specs.Words.{Token, Keyword, Number, IsWord, EndsWord, IsSpelled}
-use Rattle.script_text.proofs.Spelling.{number_word}
-use Rattle.script_text.proofs.Validity.{object_small}
-use Rattle.script_text.proofs.Vocabulary.{are_plain, plain_letters}
-
--- ---- a written line is spelled so
-
-abbrev are_proper : List Token → Bool
-are_proper [] = true
-are_proper (Keyword text ∷ tokens) = (nat_lt 0 (length text) && are_plain text) && are_proper tokens
-are_proper (Number number ∷ tokens) = are_proper tokens
-
-ends_spaced : (tokens : List Token) → EndsWord (spaced tokens)
-ends_spaced [] = tt
-ends_spaced (token ∷ tokens) = refl
-
-keyword_word : (text : List ℕ) → (nat_lt 0 (length text) && are_plain text) ≡ true → IsWord (Keyword text) text
-keyword_word text are =
-    let parts = and_parts (nat_lt 0 (length text)) (are_plain text) are in
-    record { some = ltb-true 0 (length text) parts.0; letters = plain_letters text parts.1; says = refl }
-
-decimal_word : (number : ℕ) → number < 2 ^ 64 → IsWord (Number number) (decimal number)
-decimal_word number small = let is = decimal_is_IsNumeral number small in number_word (decimal number) number is.0.0 is.0.1 is.1
-
-spaced_spelled : (tokens : List Token) → are_proper tokens ≡ true → HasSmallNumbers tokens → IsSpelled tokens (spaced tokens)
-spaced_spelled [] are small = tt
-spaced_spelled (Keyword text ∷ tokens) are small =
-    let parts = and_parts (nat_lt 0 (length text) && are_plain text) (are_proper tokens) are in
-    (32 ∷ [], text, spaced tokens, (refl, tt), keyword_word text parts.0, ends_spaced tokens, spaced_spelled tokens parts.1 small, refl)
-spaced_spelled (Number number ∷ tokens) are small =
-    (32 ∷ [], decimal number, spaced tokens, (refl, tt), decimal_word number small.0, ends_spaced tokens, spaced_spelled tokens are small.1, refl)
-
-words_spelled : (tokens : List Token) → are_proper tokens ≡ true → HasSmallNumbers tokens → IsSpelled tokens (written_words tokens)
-words_spelled [] are small = tt
-words_spelled (Keyword text ∷ tokens) are small =
-    let parts = and_parts (nat_lt 0 (length text) && are_plain text) (are_proper tokens) are in
-    ([], text, spaced tokens, tt, keyword_word text parts.0, ends_spaced tokens, spaced_spelled tokens parts.1 small, refl)
-words_spelled (Number number ∷ tokens) are small =
-    ([], decimal number, spaced tokens, tt, decimal_word number small.0, ends_spaced tokens, spaced_spelled tokens are small.1, refl)
-
-proper_line : (line : Line) → are_proper (line_tokens line) ≡ true
-proper_line Pgas = refl
-proper_line (Object (AList locales objects width)) = refl
-proper_line (Object (ABag locales segments room)) = refl
-proper_line (Object (ADeque locales capacity)) = refl
-proper_line (Callers callers) = refl
-proper_line (Caller caller) = refl
-proper_line Round = refl
-proper_line End = refl
-proper_line (ACall (OfList (Read at))) = refl
-proper_line (ACall (OfList (Write at value))) = refl
-proper_line (ACall (OfList (Swap at old new))) = refl
-proper_line (ACall (OfList (Add at value))) = refl
-proper_line (ACall (OfList (Grow to))) = refl
-proper_line (ACall (OfList Len)) = refl
-proper_line (ACall (OfBag (Put item) true)) = refl
-proper_line (ACall (OfBag Remove true)) = refl
-proper_line (ACall (OfDeque (PushBack item) true)) = refl
-proper_line (ACall (OfDeque (PushFront item) true)) = refl
-proper_line (ACall (OfDeque PopBack true)) = refl
-proper_line (ACall (OfDeque PopFront true)) = refl
-proper_line (ACall (OfBag (Put item) false)) = refl
-proper_line (ACall (OfBag Remove false)) = refl
-proper_line (ACall (OfDeque (PushBack item) false)) = refl
-proper_line (ACall (OfDeque (PushFront item) false)) = refl
-proper_line (ACall (OfDeque PopBack false)) = refl
-proper_line (ACall (OfDeque PopFront false)) = refl
-
-line_spelled : (line : Line) → HasSmallNumbers (line_tokens line) → IsSpelled (line_tokens line) (written_words (line_tokens line))
-line_spelled line small = words_spelled (line_tokens line) (proper_line line) small
+use Rattle.script_text.specs.Drafts.{Progress}
+use Rattle.script_text.specs.Forms.{IsStage}
+use Rattle.script_text.specs.Fronts.{some_callers}
+use Rattle.script_text.specs.Lines.{IsObject, IsCallers, IsCallOf, MayCome}
+use Rattle.script_text.specs.Rows.{line_words, written_line}
+use Rattle.script_text.specs.Scripts.{PlainScript, written_head, written_calls, written_callers, written_rounds, written, IsRoundOf, counted_lines, IsValid}
+use Rattle.script_text.specs.ScriptText.{beginning, with_call, line_after, after, is_counted, is_end, script_text, HasScript}
+use Rattle.script_text.proofs.WrittenLines.{written_reads_line}
 
 -- ---- texts that lead from one progress to another
 
-record Led (from : Progress) (text : List ℕ) (to : Progress) (count : ℕ) : Type 0 where
-  says : List (Option Line)
-  lines : AreLines from text says to
-  counted : sum_by counts says ≡ count
+-- what was read leads to the progress, at the front of a line
+abbrev StandsAt : List ℕ → Progress → ℕ → ℕ → Type 0
+StandsAt read at lines counted = (standing script_text read ≡ record { progress = at; part = []; lines = lines; counted = counted; size = length read }) × TextIsOpen script_text read
 
-lines_append : (from mid to : Progress) (first second : List ℕ) (says others : List (Option Line)) → AreLines from first says mid → AreLines mid second others to → AreLines from (first ++ second) (says ++ others) to
-lines_append from mid to first second [] others one two =
-    subst (λ (text : List ℕ). AreLines from (text ++ second) others to) (sym one.0) (subst (λ (p : Progress). AreLines p second others to) (sym one.1) two)
-lines_append from mid to first second (said ∷ says) others one two = (
-  one.0,
-  one.1 ++ second,
-  one.2,
-  one.3,
-  lines_append (after from said) mid to one.1 second says others one.4 two,
-  ap (λ (text : List ℕ). text ++ second) one.5 ∙ append_assoc one.0 (10 ∷ one.1) second,
-)
+-- behind any such text, within the limits, with so many counted lines more
+abbrev Led : Progress → List ℕ → Progress → ℕ → Type 0
+Led from text to count =
+    (read : List ℕ) (lines counted : ℕ) → counted + count ≤ 2 ^ 20 → length read + length text ≤ 2 ^ 30 → StandsAt read from lines counted → (more : ℕ) × StandsAt (read ++ text) to more (counted + count)
 
 led_nothing : (at : Progress) → Led at [] at 0
-led_nothing at = record { says = []; lines = (refl, refl); counted = refl }
+led_nothing at read lines counted few short stands =
+    (lines, subst (λ (r : List ℕ). StandsAt r at lines (counted + 0)) (sym (append-nil read)) (subst (λ n. StandsAt read at lines n) (omega arith) stands))
 
 counted_so : (from : Progress) (text : List ℕ) (to : Progress) (count same : ℕ) → count ≡ same → Led from text to count → Led from text to same
 counted_so from text to count same is led = subst (λ n. Led from text to n) is led
 
-led_append : (from mid to : Progress) (first second : List ℕ) (few more : ℕ) → Led from first mid few → Led mid second to more → Led from (first ++ second) to (few + more)
-led_append from mid to first second few more one two = record {
-  says = one.says ++ two.says;
-  lines = lines_append from mid to first second one.says two.says one.lines two.lines;
-  counted = sum_by-append counts one.says two.says ∙ omega (arith, one.counted, two.counted);
-}
+led_append : (from mid to : Progress) (first second : List ℕ) (one more : ℕ) → Led from first mid one → Led mid second to more → Led from (first ++ second) to (one + more)
+led_append from mid to first second one more lead next read lines counted few short stands =
+    let whole = length-append first second in
+    let there = lead read lines counted (omega (arith, few)) (omega (arith, short, whole)) stands in
+    let end = next (read ++ first) there.0 (counted + one) (omega (arith, few)) (omega (arith, short, whole, length-append read first)) there.1 in
+    (end.0, subst (λ (r : List ℕ). StandsAt r to end.0 (counted + (one + more))) (append_assoc read first second) (subst (λ n. StandsAt ((read ++ first) ++ second) to end.0 n) (omega arith) end.1))
 
-led_line : (at : Progress) (line : Line) → MayCome at.stage line → line ≢ End → HasSmallNumbers (line_tokens line) → Led at (written_line line) (line_after at line) (counts (Some line))
-led_line at line may other small = record {
-  says = Some line ∷ [];
-  lines = (written_words (line_tokens line), [], (may, line_spelled line small), (λ same. other (same_line line End same)), (refl, refl), refl);
-  counted = sum_by-cons counts (Some line) [] ∙ omega arith;
-}
+led_line : (at : Progress) (line : Line) → MayCome at.stage line → IsStage at.stage → is_end (Some line) ≡ false → Led at (written_line line) (line_after at line) (count_of script_text (Some line))
+led_line at line may staged other read lines counted few short stands =
+    let reads = written_reads_line at.stage line staged may in
+    let bytes = words_line (line_words line) in
+    let room : length read + length bytes < 2 ^ 30 = omega (arith, short, length_push bytes 10) in (
+      lines + 1,
+      (
+        written_stands script_text read bytes at (Some line) lines counted stands.0 stands.1 reads.1 reads.0 (omega (arith, room)),
+        written_open script_text read bytes at (Some line) lines counted stands.0 stands.1 reads.1 reads.0 (omega (arith, room)) other (within (is_counted (Some line)) refl) room,
+      ),
+    )
   where
-    same_line : (line other : Line) → Some line ≡ Some other → line ≡ other
-    same_line line other same = same_Some line other same
+    within : (b : Bool) → is_counted (Some line) ≡ b → b ≡ true → counted < 2 ^ 20
+    within true is _ = omega (arith, few, ap {B = ℕ} (λ (b : Bool). if b then 1 else 0) is)
+    within false is never = absurd (false≢true never)
+
+few_callers : (object : ObjectLine) (callers : ℕ) → IsCallers object callers → (1 ≤ callers) × (callers < 2 ^ 32)
+few_callers object callers few = (few.0, omega (arith, few.1, (some_callers object).1))
 
 -- ---- a round
 
@@ -154,7 +87,7 @@ module _ (object : ObjectLine) (callers : ℕ) (few : IsCallers object callers) 
       let mid = speaking (Some caller) (done ++ (made ++ call ∷ []) ∷ rest) in
       let is = All-head (IsCallOf object callers) call calls all in
       let one : Led from (written_line (ACall call)) mid 1 =
-      subst (λ (lists : List (List Call)). Led from (written_line (ACall call)) (speaking (Some caller) lists) 1) (with_call_at done made rest call) (led_line from (ACall call) is (λ same. cc) is.numbers) in
+      subst (λ (lists : List (List Call)). Led from (written_line (ACall call)) (speaking (Some caller) lists) 1) (with_call_at done made rest call) (led_line from (ACall call) is (few_callers object callers few) refl) in
       let others : Led mid (flat_map (λ call. written_line (ACall call)) calls) (speaking (Some caller) (done ++ (made ++ (call ∷ calls)) ∷ rest)) (length calls) =
       subst (λ (m : List Call). Led mid (flat_map (λ call. written_line (ACall call)) calls) (speaking (Some caller) (done ++ m ∷ rest)) (length calls)) (append_assoc made (call ∷ []) calls)
       (calls_lead calls done (made ++ call ∷ []) rest (All-tail (IsCallOf object callers) call calls all)) in
@@ -176,7 +109,7 @@ module _ (object : ObjectLine) (callers : ℕ) (few : IsCallers object callers) 
         last = Some (length done);
         led = counted_so from (written_calls (length done) (call ∷ calls)) to (0 + length (call ∷ calls)) (length (call ∷ calls)) (omega arith)
             (led_append from mid to (written_line (Caller (length done))) (flat_map (λ call. written_line (ACall call)) (call ∷ calls)) 0 (length (call ∷ calls))
-            (led_line from (Caller (length done)) below (λ same. cc) (omega (arith, below, few.1, few_callers object), tt)) (calls_lead (call ∷ calls) done [] rest all));
+            (led_line from (Caller (length done)) below (few_callers object callers few) refl) (calls_lead (call ∷ calls) done [] rest all));
       }
 
   callers_led : (lists done : List (List Call)) (caller : Option ℕ) → length done + length lists ≤ callers → All (All (IsCallOf object callers)) lists
@@ -227,7 +160,7 @@ rounds_led object callers few (round ∷ rounds) caller before calls each all =
     let others = rounds_led object callers few rounds spoken.last (before ++ calls ∷ []) round is.each (All-tail (IsRoundOf object callers) round rounds all) in
     let to : Progress = record { stage = InRound object callers others.last; before = others.done; calls = others.present } in
     let line : Led from (written_line Round) silent 1 =
-    subst (λ n. Led from (written_line Round) (record { stage = InRound object callers None; before = before ++ calls ∷ []; calls = replicate n [] }) 1) (each ∙ sym is.each) (led_line from Round tt (λ same. cc) tt) in
+    subst (λ n. Led from (written_line Round) (record { stage = InRound object callers None; before = before ++ calls ∷ []; calls = replicate n [] }) 1) (each ∙ sym is.each) (led_line from Round tt (few_callers object callers few) refl) in
     let round_text = written_line Round ++ written_callers 0 round in
     record {
       last = others.last;
@@ -243,14 +176,13 @@ rounds_led object callers few (round ∷ rounds) caller before calls each all =
 -- ---- the whole text
 
 head_led : (object : ObjectLine) (callers : ℕ) → IsObject object → IsCallers object callers
-    → Led beginning (written_line Pgas ++ (written_line (Object object) ++ written_line (Callers callers))) (record { stage = InRound object callers None; before = []; calls = replicate callers [] }) 0
+    → Led beginning (written_head object callers) (record { stage = InRound object callers None; before = []; calls = replicate callers [] }) 0
 head_led object callers is few =
     let first = line_after beginning Pgas in
     let second = line_after first (Object object) in
     let third = line_after second (Callers callers) in
-    led_append beginning first third (written_line Pgas) (written_line (Object object) ++ written_line (Callers callers)) 0 0 (led_line beginning Pgas tt (λ same. cc) tt)
-    (led_append first second third (written_line (Object object)) (written_line (Callers callers)) 0 0 (led_line first (Object object) is (λ same. cc) (object_small object is))
-    (led_line second (Callers callers) few (λ same. cc) (omega (arith, few.1, few_callers object), tt)))
+    led_append beginning first third (written_line Pgas) (written_line (Object object) ++ written_line (Callers callers)) 0 0 (led_line beginning Pgas tt tt refl)
+    (led_append first second third (written_line (Object object)) (written_line (Callers callers)) 0 0 (led_line first (Object object) is tt refl) (led_line second (Callers callers) few tt refl))
 
 rounds_text_led : (object : ObjectLine) (callers : ℕ) → IsCallers object callers → (rounds : List (List (List Call))) → 0 < length rounds → All (IsRoundOf object callers) rounds → (last : Option ℕ) × (done : List (List (List Call))) × (present : List (List Call))
     × Led (record { stage = InRound object callers None; before = []; calls = replicate callers [] }) (written_rounds rounds) (record { stage = InRound object callers last; before = done; calls = present }) (counted_lines rounds) × (done ++ present ∷ [] ≡ rounds)
@@ -272,40 +204,43 @@ rounds_text_led object callers few (round ∷ rounds) some all =
       others.all,
     )
 
+-- a text ends with its line `end`
+end_read : (read : List ℕ) (object : ObjectLine) (callers : ℕ) (caller : Option ℕ) (before : List (List (List Call))) (calls : List (List Call)) (lines counted : ℕ) → IsCallers object callers → length read + 3 ≤ 2 ^ 30
+    → StandsAt read (record { stage = InRound object callers caller; before = before; calls = calls }) lines counted → HasScript (read ++ written_line End) (Unit {0}) (record { object = object; callers = callers; rounds = before ++ calls ∷ [] })
+end_read read object callers caller before calls lines counted few short stands =
+    let at : Progress = record { stage = InRound object callers caller; before = before; calls = calls } in
+    let bytes = words_line (line_words End) in
+    let reads = written_reads_line at.stage End (few_callers object callers few) tt in
+    let last = front_stands script_text read bytes at (Some End) lines counted stands.0 stands.1 reads.1 reads.0 short in (
+      after at (Some End),
+      record {
+        front = read ++ bytes;
+        said = Some End;
+        opened = front_open script_text read bytes at (Some End) lines counted stands.0 stands.1 reads.1 reads.0 short;
+        last = front_says script_text read bytes at (Some End) lines counted stands.0 stands.1 reads.1 reads.0 short;
+        within = λ is. absurd (false≢true is);
+        makes = ap (λ (s : Standing Progress). after s.progress (Some End)) (sym last);
+        whole = inr ([], sym (append_assoc read bytes (10 ∷ [])), refl);
+      },
+      refl,
+    )
+
 -- the written script reads as this one
 pub written_reads : (script : PlainScript) → IsValid script → HasScript (written script) (Unit {0}) script
 written_reads script is =
-    let p = written_line Pgas in
-    let o = written_line (Object script.object) in
-    let n = written_line (Callers script.callers) in
-    let r = written_rounds script.rounds in
-    let e = written_words (line_tokens End) in
+    let head = written_head script.object script.callers in
+    let body = written_rounds script.rounds in
     let rounds = rounds_text_led script.object script.callers is.callers script.rounds is.some is.rounds in
     let mid : Progress = record { stage = InRound script.object script.callers None; before = []; calls = replicate script.callers [] } in
     let to : Progress = record { stage = InRound script.object script.callers rounds.0; before = rounds.1; calls = rounds.2 } in
-    let all = led_append beginning mid to (p ++ (o ++ n)) r 0 (counted_lines script.rounds) (head_led script.object script.callers is.object is.callers) rounds.3 in
-    let text = ((p ++ (o ++ n)) ++ r) ++ e in
-    let whole : written script ≡ text ++ 10 ∷ [] = regrouped p o n r e in
-    record {
-      text = text;
-      is_text = record {
-        lines = (p ++ (o ++ n)) ++ r;
-        says = all.says;
-        at = to;
-        last = e;
-        are_lines = all.lines;
-        ends = (tt, line_spelled End tt);
-        whole = refl;
-        made = made_of script rounds.1 rounds.2 rounds.4;
-        few = omega (arith, all.counted, is.few);
-        short = omega (arith, is.short, ap length whole, length_push text 10);
-      };
-      front = inl ([], whole);
-    }
+    let sizes : length (written script) ≡ length head + length body + 4 = omega (arith, length-append head (body ++ written_line End), length-append body (written_line End)) in
+    let whole = length-append head body in
+    let all =
+    led_append beginning mid to head body 0 (counted_lines script.rounds) (head_led script.object script.callers is.object is.callers) rounds.3 [] 0 0 (omega (arith, is.few)) (omega (arith, is.short, sizes, whole)) (refl, open_nothing script_text) in
+    subst (λ (s : PlainScript). HasScript (written script) (Unit {0}) s) (made_of script rounds.1 rounds.2 rounds.4)
+    (subst (λ (t : List ℕ). HasScript t (Unit {0}) (record { object = script.object; callers = script.callers; rounds = rounds.1 ++ rounds.2 ∷ [] })) (append_assoc head body (written_line End))
+    (end_read (head ++ body) script.object script.callers rounds.0 rounds.1 rounds.2 all.0 (0 + (0 + counted_lines script.rounds)) is.callers (omega (arith, is.short, sizes, whole)) all.1))
   where
-    regrouped : (p o n r e : List ℕ) → p ++ (o ++ (n ++ (r ++ (e ++ 10 ∷ [])))) ≡ (((p ++ (o ++ n)) ++ r) ++ e) ++ 10 ∷ []
-    regrouped p o n r e = simp append_assoc
-
     made_of : (script : PlainScript) (done : List (List (List Call))) (present : List (List Call)) → done ++ present ∷ [] ≡ script.rounds
-        → script ≡ record { object = script.object; callers = script.callers; rounds = done ++ present ∷ [] }
-    made_of script done present all = ap (λ (rounds : List (List (List Call))). record script { rounds = rounds }) (sym all)
+        → record { object = script.object; callers = script.callers; rounds = done ++ present ∷ [] } ≡ script
+    made_of script done present all = ap (λ (rounds : List (List (List Call))). record script { rounds = rounds }) all

@@ -1,80 +1,31 @@
 -- The script of a text is valid.
-use Rattle.std.proofs.Common.{◌≡◌, ◌≢◌, ℕ, ◌+◌, ◌<◌, ◌≤◌, ◌^◌, zero, suc, List, [], ◌∷◌, ◌++◌, length, replicate, sum_by, slice_index_or, slice_set, All, Option, Some, None, Result, Ok, Err, IfOk, refl, ap, sym, ◌∙◌, subst, arith, append-nil, length-append, length-set, add-zero, get_or-set_same}
+use Rattle.std.proofs.Common.{◌≡◌, ◌≢◌, ℕ, ◌+◌, ◌<◌, ◌≤◌, ◌^◌, zero, suc, Bool, true, false, if◌then◌else◌, List, [], ◌∷◌, ◌++◌, length, replicate, sum_by, slice_index_or, slice_set, All, Option, Some, None, Result, Ok, Err, IfOk, refl, ap, sym, ◌∙◌, subst, arith, inl, inr, ⊎_elim, append-nil, length-append, length-set, add-zero, get_or-set_same}
 use Rattle.std.specs.List.{flat_map}
-use Rattle.std.proofs.lemmas.Fmt.{length-decimal-le}
-use Rattle.std.proofs.lemmas.Int.Digits.{digits_value-lt}
+use Rattle.std.proofs.lemmas.Bool.{false≢true}
 use Rattle.std.proofs.lemmas.List.{length_push, length-replicate}
 use Rattle.std.proofs.lemmas.List.Concat.{length-flat_map}
 use Rattle.std.proofs.lemmas.List.Elements.{All-nil, All-push, All-set, All-get_or, All-replicate}
 use Rattle.std.proofs.lemmas.List.Sums.{sum_by_push, sum_by-set, sum_by-cons}
+use Rattle.line_text.specs.Lines.{line_says}
+use Rattle.line_text.specs.Texts.{Standing, HasText, standing, count_of}
+use Rattle.line_text.proofs.Kept.{text_keeps}
 use Rattle.script_text.specs.declared.scripts.ObjectLine.{ObjectLine}
-use Rattle.script_text.specs.declared.scripts.ObjectLine.TheVariants.{List as AList, Bag as ABag, Deque as ADeque}
 use Rattle.script_text.specs.declared.scripts.Call.{Call}
 use Rattle.script_text.specs.declared.lines.Line.{Line}
 use Rattle.script_text.specs.declared.lines.Line.TheVariants.{Pgas, Object, Callers, Caller, Round, Call as ACall, End}
 use Rattle.script_text.specs.declared.lines.Stage.{Stage}
 use Rattle.script_text.specs.declared.lines.Stage.TheVariants.{AtPgas, AtObject, AtCallers, InRound}
-use Rattle.script_text.proofs.Tables.{few_callers}
-use Rattle.script_text.specs.Lines.{IsObject, IsCallers, IsCallOf, HasSmallNumbers, MayCome, IsLine, stage_after, line_tokens}
-use Rattle.script_text.specs.Reading.{Reading}
-use Rattle.script_text.specs.declared.faults.ScriptFault.{ScriptFault}
-use Rattle.script_text.specs.declared.scripts.Script.{Script}
-use Rattle.script_text.specs.Scripts.{PlainScript, plain_script, written_word, written_words, spaced, written_line, written_calls, written_callers, written_rounds, IsRoundOf, IsValid}
-use Rattle.script_text.specs.ScriptText.{Progress, beginning, with_call, after, before_after, calls_after, AreLines, counts, IsMadeAt, IsScriptText}
-use Rattle.script_text.specs.Words.{Token, Keyword, Number, IsWord, EndsWord, IsSpelled}
-
--- ---- no spelling is shorter than the written form
-
-word_long : (token : Token) (word : List ℕ) → HasSmallNumbers (token ∷ []) → IsWord token word → length (written_word token) ≤ length word
-word_long (Keyword text) word small is = omega (arith, ap length is.says)
-word_long (Number number) word small is =
-    let below : number < 10 ^ length word = subst (λ n. n < 10 ^ length word) is.says.1 (digits_value-lt 10 word is.says.0.1) in
-    length-decimal-le (length word) number is.some below small.0
-
-small_head : (token : Token) (tokens : List Token) → HasSmallNumbers (token ∷ tokens) → HasSmallNumbers (token ∷ [])
-small_head (Keyword text) tokens small = tt
-small_head (Number number) tokens small = (small.0, tt)
-
-small_tail : (token : Token) (tokens : List Token) → HasSmallNumbers (token ∷ tokens) → HasSmallNumbers tokens
-small_tail (Keyword text) tokens small = small
-small_tail (Number number) tokens small = small.1
-
-spaced_long : (tokens : List Token) (line : List ℕ) → HasSmallNumbers tokens → IsSpelled tokens line → EndsWord line → length (spaced tokens) ≤ length line
-spaced_long [] line small spelled ends = omega arith
-spaced_long (token ∷ tokens) line small spelled ends =
-    parted spelled.0 spelled.1 spelled.2 spelled.4 spelled.7
-    (word_long token spelled.1 (small_head token tokens small) spelled.4)
-    (spaced_long tokens spelled.2 (small_tail token tokens small) spelled.6 spelled.5)
-  where
-    parted : (blanks word rest : List ℕ) → IsWord token word → line ≡ blanks ++ (word ++ rest) → length (written_word token) ≤ length word → length (spaced tokens) ≤ length rest → length (spaced (token ∷ tokens)) ≤ length line
-    parted [] [] rest is whole first others = absurd (omega (arith, is.some))
-    parted [] (letter ∷ word) rest is whole first others = absurd (is.letters.0.0 (subst EndsWord whole ends))
-    parted (blank ∷ blanks) word rest is whole first others =
-        omega (arith, first, others, ap length whole, length-append blanks (word ++ rest), length-append word rest, length-append (written_word token) (spaced tokens))
-
-words_long : (tokens : List Token) (line : List ℕ) → HasSmallNumbers tokens → IsSpelled tokens line → length (written_words tokens) ≤ length line
-words_long [] line small spelled = omega arith
-words_long (token ∷ tokens) line small spelled =
-    omega (
-      arith,
-      word_long token spelled.1 (small_head token tokens small) spelled.4,
-      spaced_long tokens spelled.2 (small_tail token tokens small) spelled.6 spelled.5,
-      ap length spelled.7,
-      length-append spelled.0 (spelled.1 ++ spelled.2),
-      length-append spelled.1 spelled.2,
-      length-append (written_word token) (spaced tokens),
-    )
+use Rattle.script_text.specs.Drafts.{Progress}
+use Rattle.script_text.specs.Forms.{start_of, script_grammar, IsStage}
+use Rattle.script_text.specs.Fronts.{some_callers}
+use Rattle.script_text.specs.Lines.{IsObject, IsCallers, IsCallOf, MayCome, IsInRound, stage_after}
+use Rattle.script_text.specs.Rows.{written_line}
+use Rattle.script_text.specs.Scripts.{PlainScript, written_head, written_calls, written_callers, written_rounds, IsRoundOf, IsValid}
+use Rattle.script_text.specs.ScriptText.{with_call, after, before_after, calls_after, is_counted, is_end, script_text, IsMadeAt, IsMade, HasScript}
+use Rattle.script_text.proofs.Comes.{Comes, line_comes}
 
 abbrev size : Line → ℕ
 size line = length (written_line line)
-
-line_long : (line : Line) (bytes : List ℕ) → HasSmallNumbers (line_tokens line) → IsSpelled (line_tokens line) bytes → size line ≤ length bytes + 1
-line_long line bytes small spelled = omega (arith, words_long (line_tokens line) bytes small spelled, length_push (written_words (line_tokens line)) 10)
-
-pub object_small : (object : ObjectLine) → IsObject object → HasSmallNumbers (line_tokens (Object object))
-object_small (AList locales objects width) is = (omega (arith, is.0.0.1), (omega (arith, is.0.2.1), (omega (arith, is.0.3.1), tt)))
-object_small (ABag locales segments room) is = (omega (arith, is.1), (omega (arith, is.3), (omega (arith, is.5), tt)))
-object_small (ADeque locales capacity) is = (omega (arith, is.1), (omega (arith, is.3), tt))
 
 -- ---- the size of what is written of rounds
 
@@ -191,9 +142,9 @@ due_most caller [] = omega arith
 due_most caller (call ∷ calls) = omega arith
 
 -- a caller's line
-caller_holds : (object : ObjectLine) (callers : ℕ) (old : Option ℕ) (caller : ℕ) (before : List (List (List Call))) (calls : List (List Call)) (bytes counted : ℕ) (line : List ℕ) → caller < callers → IsSpelled (line_tokens (Caller caller)) line
+caller_holds : (object : ObjectLine) (callers : ℕ) (old : Option ℕ) (caller : ℕ) (before : List (List (List Call))) (calls : List (List Call)) (bytes counted : ℕ) (line : List ℕ) → caller < callers → size (Caller caller) ≤ length line + 1
     → HasRounds object callers old before calls bytes counted → HasRounds object callers (Some caller) before calls (bytes + length line + 1) counted
-caller_holds object callers old caller before calls bytes counted line below spelled holds = record {
+caller_holds object callers old caller before calls bytes counted line below long holds = record {
   object_is = holds.object_is;
   callers_are = holds.callers_are;
   caller_is = below;
@@ -201,13 +152,13 @@ caller_holds object callers old caller before calls bytes counted line below spe
   each = holds.each;
   calls_are = holds.calls_are;
   counted_is = holds.counted_is;
-  size_is = omega (arith, holds.size_is, due_most caller (slice_index_or calls caller []), line_long (Caller caller) line (omega (arith, below, holds.callers_are.1, few_callers object), tt) spelled);
+  size_is = omega (arith, holds.size_is, due_most caller (slice_index_or calls caller []), long);
 }
 
 -- a `round` line
-round_holds : (object : ObjectLine) (callers : ℕ) (old : Option ℕ) (before : List (List (List Call))) (calls : List (List Call)) (bytes counted : ℕ) (line : List ℕ) → IsSpelled (line_tokens Round) line
+round_holds : (object : ObjectLine) (callers : ℕ) (old : Option ℕ) (before : List (List (List Call))) (calls : List (List Call)) (bytes counted : ℕ) (line : List ℕ) → size Round ≤ length line + 1
     → HasRounds object callers old before calls bytes counted → HasRounds object callers None (before ++ calls ∷ []) (replicate (length calls) []) (bytes + length line + 1) (counted + 1)
-round_holds object callers old before calls bytes counted line spelled holds = record {
+round_holds object callers old before calls bytes counted line long holds = record {
   object_is = holds.object_is;
   callers_are = holds.callers_are;
   caller_is = tt;
@@ -215,7 +166,7 @@ round_holds object callers old before calls bytes counted line spelled holds = r
   each = length-replicate (length calls) [] ∙ holds.each;
   calls_are = All-replicate (All (IsCallOf object callers)) (length calls) [] (All-nil (IsCallOf object callers));
   counted_is = omega (arith, holds.counted_is, sum_by_push (sum_by {X = List Call} length) before calls, no_lengths (length calls), length_push before calls);
-  size_is = omega (arith, holds.size_is, sum_by_push cost before calls, length-append (written_line Round) (written_callers 0 calls), no_calls 0 (length calls), line_long Round line tt spelled);
+  size_is = omega (arith, holds.size_is, sum_by_push cost before calls, length-append (written_line Round) (written_callers 0 calls), no_calls 0 (length calls), long);
 }
 
 due_none : (caller : ℕ) (calls : List Call) (call : Call) → due caller (calls ++ call ∷ []) ≡ 0
@@ -223,9 +174,9 @@ due_none caller [] call = refl
 due_none caller (first ∷ calls) call = refl
 
 -- a call line
-call_holds : (object : ObjectLine) (callers caller : ℕ) (before : List (List (List Call))) (calls : List (List Call)) (call : Call) (bytes counted : ℕ) (line : List ℕ) → IsCallOf object callers call → IsSpelled (line_tokens (ACall call)) line
+call_holds : (object : ObjectLine) (callers caller : ℕ) (before : List (List (List Call))) (calls : List (List Call)) (call : Call) (bytes counted : ℕ) (line : List ℕ) → IsCallOf object callers call → size (ACall call) ≤ length line + 1
     → HasRounds object callers (Some caller) before calls bytes counted → HasRounds object callers (Some caller) before (with_call caller call calls) (bytes + length line + 1) (counted + 1)
-call_holds object callers caller before calls call bytes counted line is spelled holds =
+call_holds object callers caller before calls call bytes counted line is long holds =
     let within : caller < length calls = omega (arith, holds.caller_is, holds.each) in
     let old = slice_index_or calls caller [] in
     record {
@@ -241,21 +192,26 @@ call_holds object callers caller before calls call bytes counted line is spelled
         arith,
         holds.size_is,
         callers_push calls 0 caller caller call (omega arith) within,
-        line_long (ACall call) line is.numbers spelled,
+        long,
         ap (due caller) (get_or-set_same calls caller (old ++ call ∷ []) [] within) ∙ due_none caller old call,
       );
     }
 
-line_holds : (at : Progress) (line : List ℕ) (says : Line) (bytes counted : ℕ) → MayCome at.stage says → IsSpelled (line_tokens says) line → says ≢ End → Holds at.stage at.before at.calls bytes counted
-    → Holds (after at (Some says)).stage (after at (Some says)).before (after at (Some says)).calls (bytes + length line + 1) (counted + counts (Some says))
-line_holds at line says bytes counted may spelled other holds = by at.stage says may spelled other holds
+staged : (stage : Stage) (before : List (List (List Call))) (calls : List (List Call)) (bytes counted : ℕ) → Holds stage before calls bytes counted → IsStage stage
+staged AtPgas before calls bytes counted holds = tt
+staged AtObject before calls bytes counted holds = tt
+staged (AtCallers object) before calls bytes counted holds = tt
+staged (InRound object callers caller) before calls bytes counted holds = (holds.callers_are.0, omega (arith, holds.callers_are.1, (some_callers object).1))
+
+line_holds : (at : Progress) (line : List ℕ) (says : Line) (bytes counted : ℕ) → Comes at.stage says line → says ≢ End → Holds at.stage at.before at.calls bytes counted
+    → Holds (after at (Some says)).stage (after at (Some says)).before (after at (Some says)).calls (bytes + length line + 1) (counted + count_of script_text (Some says))
+line_holds at line says bytes counted comes other holds = by at.stage says comes.may comes.long other holds
   where
-    by : (stage : Stage) (says : Line) → MayCome stage says → IsSpelled (line_tokens says) line → says ≢ End → Holds stage at.before at.calls bytes counted
-        → Holds (stage_after stage says) (before_after says at.before at.calls) (calls_after stage says at.calls) (bytes + length line + 1) (counted + counts (Some says))
-    by AtPgas Pgas may spelled other holds = (holds.0, omega (arith, holds.1), omega (arith, line_long Pgas line tt spelled))
-    by AtObject (Object object) may spelled other holds =
-        (holds.0, omega (arith, holds.1), omega (arith, holds.2, line_long (Object object) line (object_small object may) spelled), may)
-    by (AtCallers object) (Callers callers) may spelled other holds = record {
+    by : (stage : Stage) (says : Line) → MayCome stage says → size says ≤ length line + 1 → says ≢ End → Holds stage at.before at.calls bytes counted
+        → Holds (stage_after stage says) (before_after says at.before at.calls) (calls_after stage says at.calls) (bytes + length line + 1) (counted + count_of script_text (Some says))
+    by AtPgas Pgas may long other holds = (holds.0, omega (arith, holds.1), omega (arith, long))
+    by AtObject (Object object) may long other holds = (holds.0, omega (arith, holds.1), omega (arith, holds.2, long), may)
+    by (AtCallers object) (Callers callers) may long other holds = record {
       object_is = holds.3;
       callers_are = may;
       caller_is = tt;
@@ -263,40 +219,51 @@ line_holds at line says bytes counted may spelled other holds = by at.stage says
       each = length-replicate callers [];
       calls_are = All-replicate (All (IsCallOf object callers)) callers [] (All-nil (IsCallOf object callers));
       counted_is = omega (arith, holds.1, ap (sum_by (sum_by {X = List Call} length)) holds.0, ap length holds.0, no_lengths callers);
-      size_is = omega (arith, holds.2, ap (sum_by cost) holds.0, no_calls 0 callers, line_long (Callers callers) line (omega (arith, may.1, few_callers object), tt) spelled);
+      size_is = omega (arith, holds.2, ap (sum_by cost) holds.0, no_calls 0 callers, long);
     }
-    by (InRound object callers old) (Caller caller) may spelled other holds =
-        subst (λ n. HasRounds object callers (Some caller) at.before at.calls (bytes + length line + 1) n) (sym (add-zero counted)) (caller_holds object callers old caller at.before at.calls bytes counted line may spelled holds)
-    by (InRound object callers old) Round may spelled other holds = round_holds object callers old at.before at.calls bytes counted line spelled holds
-    by (InRound object callers old) End may spelled other holds = absurd (other refl)
-    by (InRound object callers (Some caller)) (ACall call) may spelled other holds = call_holds object callers caller at.before at.calls call bytes counted line may spelled holds
-    by stage says may spelled other holds = absurd may
+    by (InRound object callers old) (Caller caller) may long other holds =
+        subst (λ n. HasRounds object callers (Some caller) at.before at.calls (bytes + length line + 1) n) (sym (add-zero counted)) (caller_holds object callers old caller at.before at.calls bytes counted line may long holds)
+    by (InRound object callers old) Round may long other holds = round_holds object callers old at.before at.calls bytes counted line long holds
+    by (InRound object callers old) End may long other holds = absurd (other refl)
+    by (InRound object callers (Some caller)) (ACall call) may long other holds = call_holds object callers caller at.before at.calls call bytes counted line may long holds
+    by stage says may long other holds = absurd may
 
-says_holds : (at : Progress) (line : List ℕ) (says : Option Line) (bytes counted : ℕ) → IsLine at.stage line says → says ≢ Some End → Holds at.stage at.before at.calls bytes counted
-    → Holds (after at says).stage (after at says).before (after at says).calls (bytes + length line + 1) (counted + counts says)
-says_holds at line None bytes counted is other holds =
-    subst (λ n. Holds at.stage at.before at.calls (bytes + length line + 1) n) (sym (add-zero counted)) (more_bytes at.stage at.before at.calls bytes (bytes + length line + 1) counted (omega arith) holds)
-says_holds at line (Some says) bytes counted is other holds = line_holds at line says bytes counted is.0 is.1 (λ same. other (ap (λ (l : Line). Some l) same)) holds
+abbrev HoldsAt : Progress → ℕ → ℕ → Type 0
+HoldsAt at counted bytes = Holds at.stage at.before at.calls bytes counted × (counted ≤ 2 ^ 20)
 
-lines_hold : (from to : Progress) (text : List ℕ) (says : List (Option Line)) (bytes counted : ℕ) → AreLines from text says to → Holds from.stage from.before from.calls bytes counted
-    → Holds to.stage to.before to.calls (bytes + length text) (counted + sum_by counts says)
-lines_hold from to text [] bytes counted are holds =
-    subst (λ (p : Progress). Holds p.stage p.before p.calls (bytes + length text) (counted + 0)) are.1
-    (subst (λ n. Holds from.stage from.before from.calls (bytes + length text) n) (sym (add-zero counted))
-    (more_bytes from.stage from.before from.calls bytes (bytes + length text) counted (omega arith) holds))
-lines_hold from to text (first ∷ says) bytes counted are holds =
-    let rest = lines_hold (after from first) to are.1 says (bytes + length are.0 + 1) (counted + counts first) are.4 (says_holds from are.0 first bytes counted are.2 are.3 holds) in
-    let size_is : bytes + length are.0 + 1 + length are.1 ≡ bytes + length text = omega (arith, ap length are.5, length-append are.0 (10 ∷ are.1)) in
-    let count_is : counted + counts first + sum_by counts says ≡ counted + sum_by counts (first ∷ says) = omega (arith, sum_by-cons counts first says) in
-    subst (λ n. Holds to.stage to.before to.calls n (counted + sum_by counts (first ∷ says))) size_is
-    (subst (λ n. Holds to.stage to.before to.calls (bytes + length are.0 + 1 + length are.1) n) count_is rest)
+no_end : (line : Line) → is_end (Some line) ≡ false → line ≢ End
+no_end line other is = false≢true (sym other ∙ ap (λ l. is_end (Some l)) is)
+
+says_holds : (at : Progress) (counted bytes : ℕ) (line : List ℕ) (said : Option Line) → HoldsAt at counted bytes → line_says script_grammar (start_of at.stage) line ≡ Ok said → is_end said ≡ false → (is_counted said ≡ true → counted < 2 ^ 20)
+    → HoldsAt (after at said) (counted + count_of script_text said) (bytes + length line + 1)
+says_holds at counted bytes line said holds says other few = (by said says other, within (is_counted said) refl)
+  where
+    by : (said : Option Line) → line_says script_grammar (start_of at.stage) line ≡ Ok said → is_end said ≡ false → Holds (after at said).stage (after at said).before (after at said).calls (bytes + length line + 1) (counted + count_of script_text said)
+    by None says other =
+        subst (λ n. Holds at.stage at.before at.calls (bytes + length line + 1) n) (sym (add-zero counted)) (more_bytes at.stage at.before at.calls bytes (bytes + length line + 1) counted (omega arith) holds.0)
+    by (Some line_is) says other =
+        line_holds at line line_is bytes counted (line_comes at.stage line_is line (staged at.stage at.before at.calls bytes counted holds.0) says) (no_end line_is other) holds.0
+
+    within : (b : Bool) → is_counted said ≡ b → counted + (if b then 1 else 0) ≤ 2 ^ 20
+    within true is = omega (arith, few is)
+    within false is = omega (arith, holds.1)
 
 -- ---- validity
 
+end_said : (said : Option Line) → is_end said ≡ true → said ≡ Some End
+end_said (Some End) is = refl
+end_said None is = absurd (false≢true is)
+end_said (Some Pgas) is = absurd (false≢true is)
+end_said (Some (Object object)) is = absurd (false≢true is)
+end_said (Some (Callers callers)) is = absurd (false≢true is)
+end_said (Some (Caller caller)) is = absurd (false≢true is)
+end_said (Some Round) is = absurd (false≢true is)
+end_said (Some (ACall call)) is = absurd (false≢true is)
+
 made_valid : (object : ObjectLine) (callers : ℕ) (caller : Option ℕ) (before : List (List (List Call))) (calls : List (List Call)) (bytes counted : ℕ) (last : List ℕ)
-    → HasRounds object callers caller before calls bytes counted → IsSpelled (line_tokens End) last → counted ≤ 2 ^ 20 → bytes + length last ≤ 2 ^ 30
+    → HasRounds object callers caller before calls bytes counted → size End ≤ length last + 1 → counted ≤ 2 ^ 20 → bytes + length last ≤ 2 ^ 30
     → IsValid (record { object = object; callers = callers; rounds = before ++ calls ∷ [] })
-made_valid object callers caller before calls bytes counted last holds spelled few short = record {
+made_valid object callers caller before calls bytes counted last holds long few short = record {
   object = holds.object_is;
   callers = holds.callers_are;
   some = omega (arith, length_push before calls);
@@ -307,26 +274,58 @@ made_valid object callers caller before calls bytes counted last holds spelled f
     short,
     holds.size_is,
     rounds_size before calls,
-    line_long End last tt spelled,
-    length-append (written_line Pgas) (written_line (Object object) ++ (written_line (Callers callers) ++ (written_rounds (before ++ calls ∷ []) ++ written_line End))),
-    length-append (written_line (Object object)) (written_line (Callers callers) ++ (written_rounds (before ++ calls ∷ []) ++ written_line End)),
-    length-append (written_line (Callers callers)) (written_rounds (before ++ calls ∷ []) ++ written_line End),
+    long,
+    length-append (written_head object callers) (written_rounds (before ++ calls ∷ []) ++ written_line End),
+    length-append (written_line Pgas) (written_line (Object object) ++ written_line (Callers callers)),
+    length-append (written_line (Object object)) (written_line (Callers callers)),
     length-append (written_rounds (before ++ calls ∷ [])) (written_line End),
   );
 }
 
-pub text_valid : (text : List ℕ) (script : PlainScript) → IsScriptText text script → IsValid script
-text_valid text script is =
-    by is.at.stage (lines_hold beginning is.at is.lines is.says 0 0 is.are_lines (refl, refl)) is.made is.ends
-  where
-    by : (stage : Stage) → Holds stage is.at.before is.at.calls (0 + length is.lines) (0 + sum_by counts is.says) → IsMadeAt stage (is.at.before ++ is.at.calls ∷ []) script → IsLine stage is.last (Some End) → IsValid script
-    by (InRound object callers caller) holds made ends =
-        subst (λ (s : PlainScript). IsValid s) (sym made)
-        (made_valid object callers caller is.at.before is.at.calls (0 + length is.lines) (0 + sum_by counts is.says) is.last holds ends.1 (omega (arith, is.few)) (omega (arith, is.short, ap length is.whole, length-append is.lines is.last)))
-    by AtPgas holds made ends = absurd made
-    by AtObject holds made ends = absurd made
-    by (AtCallers object) holds made ends = absurd made
+-- where a text ends, with its line `end`
+record IsLast (a : Standing Progress) (at : Progress) : Type 0 where
+  bytes : ℕ
+  holds : Holds a.progress.stage a.progress.before a.progress.calls bytes a.counted
+  comes : Comes a.progress.stage End a.part
+  made : at ≡ after a.progress (Some End)
+  few : a.counted ≤ 2 ^ 20
+  short : bytes + length a.part ≤ 2 ^ 30
 
-pub reading_valid : (left_before left_after : Option (List ℕ)) (faults_before faults_after : ℕ) (answer : Result Script ScriptFault) → Reading left_before left_after faults_before faults_after answer → IfOk answer (λ script. IsValid (plain_script script))
-reading_valid left_before left_after faults_before faults_after (Ok script) reading = text_valid reading.means.text (plain_script script) reading.means.is_text
-reading_valid left_before left_after faults_before faults_after (Err fault) reading = tt
+last_line : (read : List ℕ) (ended : Type 0) (at : Progress) (text : HasText script_text read ended at) → IsLast (standing script_text text.front) at
+last_line read ended at text =
+    let a = standing script_text text.front in
+    let kept = text_keeps script_text HoldsAt says_holds ((refl, refl), omega arith) text.front text.opened in
+    let is : text.said ≡ Some End = end_said text.said (⊎_elim (λ end. end.2) (λ line. line.2) text.whole) in
+    record {
+      bytes = kept.size;
+      holds = kept.holds.0;
+      comes = line_comes a.progress.stage End a.part (staged a.progress.stage a.progress.before a.progress.calls kept.size a.counted kept.holds.0)
+          (ap (line_says script_grammar (start_of a.progress.stage)) (sym (append-nil a.part)) ∙ (text.last ∙ ap (λ s. Ok s) is));
+      made = text.makes ∙ ap (after a.progress) is;
+      few = kept.holds.1;
+      short = omega (arith, kept.sizes, kept.short);
+    }
+
+may_end : (stage : Stage) → MayCome stage End → IsInRound (stage_after stage End)
+may_end (InRound object callers caller) may = tt
+may_end AtPgas may = absurd may
+may_end AtObject may = absurd may
+may_end (AtCallers object) may = absurd may
+
+pub in_round : (read : List ℕ) (ended : Type 0) (at : Progress) → HasText script_text read ended at → IsInRound at.stage
+in_round read ended at text =
+    let last = last_line read ended at text in
+    subst (λ (p : Progress). IsInRound p.stage) (sym last.made) (may_end (standing script_text text.front).progress.stage last.comes.may)
+
+last_valid : (a : Standing Progress) (at : Progress) (script : PlainScript) → IsLast a at → IsMade at script → IsValid script
+last_valid a at script last made = by a.progress.stage last.holds last.comes (subst (λ (p : Progress). IsMade p script) last.made made)
+  where
+    by : (stage : Stage) → Holds stage a.progress.before a.progress.calls last.bytes a.counted → Comes stage End a.part → IsMadeAt (stage_after stage End) (a.progress.before ++ a.progress.calls ∷ []) script → IsValid script
+    by (InRound object callers caller) holds comes made =
+        subst (λ (s : PlainScript). IsValid s) (sym made) (made_valid object callers caller a.progress.before a.progress.calls last.bytes a.counted a.part holds comes.long last.few last.short)
+    by AtPgas holds comes made = absurd comes.may
+    by AtObject holds comes made = absurd comes.may
+    by (AtCallers object) holds comes made = absurd comes.may
+
+pub script_valid : (read : List ℕ) (ended : Type 0) (script : PlainScript) → HasScript read ended script → IsValid script
+script_valid read ended script is = last_valid (standing script_text is.1.front) is.0 script (last_line read ended is.0 is.1) is.2

@@ -1,9 +1,12 @@
-pub mod Grammar
+pub use Rattle.shared_io.specs.Counts
+pub use Rattle.line_text.specs.Readings
+pub mod Drafts
+pub mod Forms
 pub mod Lines
-pub mod Places
 pub mod Reading
 pub mod Replies
-pub mod ScriptText
+pub mod Rows
 pub mod Scripts
-pub mod Standing
-pub mod Words
+pub mod ScriptText
+pub mod Fronts
+pub mod Sound

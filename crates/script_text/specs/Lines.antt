@@ -1,65 +1,17 @@
--- What each line of a script says, and where it may stand.
-use Rattle.std.specs.Prelude.{◌≡◌, ℕ, ◌<◌, ◌≤◌, ◌^◌, Bool, true, false, List, [], ◌∷◌, Option, Some, None, codes}
-use Rattle.seq_objects.specs.declared.lists.ListCall.{ListCall}
-use Rattle.seq_objects.specs.declared.lists.ListCall.TheVariants.{Read, Write, Swap, Add, Grow, Len}
-use Rattle.seq_objects.specs.declared.bags.BagCall.{BagCall}
-use Rattle.seq_objects.specs.declared.bags.BagCall.TheVariants.{Add as Put, Remove}
-use Rattle.seq_objects.specs.declared.deques.DequeCall.{DequeCall}
-use Rattle.seq_objects.specs.declared.deques.DequeCall.TheVariants.{PushBack, PushFront, PopBack, PopFront}
+-- Where each line of a script may stand.
+use Rattle.std.specs.Prelude.{◌≡◌, ℕ, ◌<◌, ◌≤◌, ◌^◌, true, List, All, Option, Some, None}
 use Rattle.pgas_base.specs.Shapes.{IsShape}
 use Rattle.script_text.specs.declared.scripts.ObjectLine.{ObjectLine}
 use Rattle.script_text.specs.declared.scripts.ObjectLine.TheVariants.{List as AList, Bag as ABag, Deque as ADeque}
 use Rattle.script_text.specs.declared.scripts.Call.{Call}
 use Rattle.script_text.specs.declared.scripts.Call.TheVariants.{List as OfList, Bag as OfBag, Deque as OfDeque}
+use Rattle.script_text.specs.declared.lines.Kind.{Kind}
+use Rattle.script_text.specs.declared.lines.Kind.TheVariants.{List as KList, Bag as KBag, Deque as KDeque}
 use Rattle.script_text.specs.declared.lines.Line.{Line}
 use Rattle.script_text.specs.declared.lines.Line.TheVariants.{Pgas, Object, Callers, Caller, Round, Call as ACall, End}
 use Rattle.script_text.specs.declared.lines.Stage.{Stage}
 use Rattle.script_text.specs.declared.lines.Stage.TheVariants.{AtPgas, AtObject, AtCallers, InRound}
-use Rattle.script_text.specs.Words.{Token, Keyword, Number, IsSpelled, IsSkipped}
-
--- ---- the words of a line
-
-abbrev pub object_tokens : ObjectLine → List Token
-object_tokens (AList locales objects width) = Keyword (codes "list") ∷ Number locales ∷ Number objects ∷ Number width ∷ []
-object_tokens (ABag locales segments room) = Keyword (codes "bag") ∷ Number locales ∷ Number segments ∷ Number room ∷ []
-object_tokens (ADeque locales capacity) = Keyword (codes "deque") ∷ Number locales ∷ Number capacity ∷ []
-
-abbrev pub list_tokens : ListCall → List Token
-list_tokens (Read at) = Keyword (codes "read") ∷ Number at ∷ []
-list_tokens (Write at value) = Keyword (codes "write") ∷ Number at ∷ Number value ∷ []
-list_tokens (Swap at old new) = Keyword (codes "swap") ∷ Number at ∷ Number old ∷ Number new ∷ []
-list_tokens (Add at value) = Keyword (codes "add") ∷ Number at ∷ Number value ∷ []
-list_tokens (Grow to) = Keyword (codes "grow") ∷ Number to ∷ []
-list_tokens Len = Keyword (codes "len") ∷ []
-
-abbrev pub bag_tokens : BagCall → List Token
-bag_tokens (Put item) = Keyword (codes "add") ∷ Number item ∷ []
-bag_tokens Remove = Keyword (codes "remove") ∷ []
-
-abbrev pub deque_tokens : DequeCall → List Token
-deque_tokens (PushBack item) = Keyword (codes "push_back") ∷ Number item ∷ []
-deque_tokens (PushFront item) = Keyword (codes "push_front") ∷ Number item ∷ []
-deque_tokens PopBack = Keyword (codes "pop_back") ∷ []
-deque_tokens PopFront = Keyword (codes "pop_front") ∷ []
-
--- a call that is tried once has `try` before it
-abbrev pub with_try : Bool → List Token → List Token
-with_try true tokens = Keyword (codes "try") ∷ tokens
-with_try false tokens = tokens
-
-abbrev pub call_tokens : Call → List Token
-call_tokens (OfList call) = list_tokens call
-call_tokens (OfBag call once) = with_try once (bag_tokens call)
-call_tokens (OfDeque call once) = with_try once (deque_tokens call)
-
-abbrev pub line_tokens : Line → List Token
-line_tokens Pgas = Keyword (codes "pgas") ∷ Keyword (codes "1") ∷ []
-line_tokens (Object object) = Keyword (codes "object") ∷ object_tokens object
-line_tokens (Callers callers) = Keyword (codes "callers") ∷ Number callers ∷ []
-line_tokens (Caller caller) = Keyword (codes "caller") ∷ Number caller ∷ []
-line_tokens Round = Keyword (codes "round") ∷ []
-line_tokens (ACall call) = call_tokens call
-line_tokens End = Keyword (codes "end") ∷ []
+use Rattle.script_text.specs.Rows.{listed, call_numbers, is_once}
 
 -- ---- the ranges
 
@@ -68,10 +20,15 @@ IsObject (AList locales objects width) = IsShape (record { locales = locales; to
 IsObject (ABag locales segments room) = (1 ≤ locales) × (locales ≤ 16) × (1 ≤ segments) × (segments ≤ 64) × (1 ≤ room) × (room ≤ 2 ^ 24)
 IsObject (ADeque locales capacity) = (1 ≤ locales) × (locales ≤ 16) × (1 ≤ capacity) × (capacity ≤ 2 ^ 24)
 
--- the most callers of an object: a deque is shared
+abbrev pub kind_of : ObjectLine → Kind
+kind_of (AList locales objects width) = KList
+kind_of (ABag locales segments room) = KBag
+kind_of (ADeque locales capacity) = KDeque
+
+-- the most callers of an object: a bag or a deque is shared
 abbrev pub most_callers : ObjectLine → ℕ
 most_callers (AList locales objects width) = 1
-most_callers (ABag locales segments room) = 1
+most_callers (ABag locales segments room) = 64
 most_callers (ADeque locales capacity) = 64
 
 abbrev pub IsCallers : ObjectLine → ℕ → Type 0
@@ -84,22 +41,11 @@ IsOfObject (ABag locales segments room) (OfBag call once) = Unit {0}
 IsOfObject (ADeque locales capacity) (OfDeque call once) = Unit {0}
 IsOfObject object call = ⊥
 
-abbrev pub is_once : Call → Bool
-is_once (OfList call) = false
-is_once (OfBag call once) = once
-is_once (OfDeque call once) = once
-
--- each number is less than 2^64
-abbrev pub HasSmallNumbers : List Token → Type 0
-HasSmallNumbers [] = Unit {0}
-HasSmallNumbers (Keyword text ∷ tokens) = HasSmallNumbers tokens
-HasSmallNumbers (Number number ∷ tokens) = (number < 2 ^ 64) × HasSmallNumbers tokens
-
 -- the call is one of this object, and is tried once only where there is one caller
 pub record IsCallOf (object : ObjectLine) (callers : ℕ) (call : Call) : Type 0 where
   pub of_object : IsOfObject object call
   pub once : is_once call ≡ true → callers ≡ 1
-  pub numbers : HasSmallNumbers (call_tokens call)
+  pub numbers : All (λ number. number < 2 ^ 64) (listed (call_numbers call))
 
 -- ---- the order of the lines
 
@@ -124,7 +70,11 @@ stage_after (InRound object callers caller) (Caller next) = InRound object calle
 stage_after (InRound object callers caller) Round = InRound object callers None
 stage_after stage line = stage
 
--- The line, without its end, says so in its place. A blank line or a comment says nothing.
-abbrev pub IsLine : Stage → List ℕ → Option Line → Type 0
-IsLine stage bytes None = IsSkipped bytes
-IsLine stage bytes (Some line) = MayCome stage line × IsSpelled (line_tokens line) bytes
+-- whose calls come
+abbrev pub caller_at : Stage → ℕ
+caller_at (InRound object callers (Some caller)) = caller
+caller_at stage = 0
+
+abbrev pub IsInRound : Stage → Type 0
+IsInRound (InRound object callers caller) = Unit {0}
+IsInRound stage = ⊥

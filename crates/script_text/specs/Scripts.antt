@@ -1,14 +1,13 @@
 -- Scripts as plain data, and when they are valid.
-use Rattle.std.specs.Prelude.{◌≡◌, ℕ, ◌+◌, ◌-◌, ◌<◌, ◌≤◌, ◌^◌, Bool, true, false, codes, List, [], ◌∷◌, ◌++◌, length, map, sum_by, All, decimal}
+use Rattle.std.specs.Prelude.{◌≡◌, ℕ, ◌+◌, ◌-◌, ◌<◌, ◌≤◌, ◌^◌, List, [], ◌∷◌, ◌++◌, length, map, sum_by, All}
 use Rattle.std.specs.List.{flat_map}
 use Rattle.script_text.specs.declared.scripts.ObjectLine.{ObjectLine}
 use Rattle.script_text.specs.declared.scripts.Call.{Call}
 use Rattle.script_text.specs.declared.scripts.Round.{Round}
 use Rattle.script_text.specs.declared.scripts.Script.{Script}
-use Rattle.script_text.specs.declared.lines.Line.{Line}
 use Rattle.script_text.specs.declared.lines.Line.TheVariants.{Pgas, Object, Callers, Caller, Round as ARound, Call as ACall, End}
-use Rattle.script_text.specs.Words.{Token, Keyword, Number}
-use Rattle.script_text.specs.Lines.{IsObject, IsCallers, IsCallOf, line_tokens}
+use Rattle.script_text.specs.Rows.{written_line}
+use Rattle.script_text.specs.Lines.{IsObject, IsCallers, IsCallOf}
 
 -- a script; a round is a list of calls for each caller
 pub record PlainScript : Type 0 where
@@ -23,26 +22,6 @@ abbrev pub plain_script : Script → PlainScript
 plain_script script = record { object = script.object; callers = script.callers; rounds = map plain_round script.rounds.items }
 
 -- ---- the written form
-
-abbrev pub written_word : Token → List ℕ
-written_word (Keyword text) = text
-written_word (Number number) = decimal number
-
-abbrev pub spaced : List Token → List ℕ
-spaced [] = []
-spaced (token ∷ tokens) = 32 ∷ (written_word token ++ spaced tokens)
-
--- words parted by one space
-abbrev pub written_words : List Token → List ℕ
-written_words [] = []
-written_words (token ∷ tokens) = written_word token ++ spaced tokens
-
-abbrev pub written_try : Bool → List ℕ
-written_try true = codes "try "
-written_try false = []
-
-abbrev pub written_line : Line → List ℕ
-written_line line = written_words (line_tokens line) ++ 10 ∷ []
 
 -- nothing for a caller that makes no call
 abbrev pub written_calls : ℕ → List Call → List ℕ
@@ -59,9 +38,12 @@ abbrev pub written_rounds : List (List (List Call)) → List ℕ
 written_rounds [] = []
 written_rounds (round ∷ rounds) = written_callers 0 round ++ flat_map (λ round. written_line ARound ++ written_callers 0 round) rounds
 
+-- the lines before the rounds
+abbrev pub written_head : ObjectLine → ℕ → List ℕ
+written_head object callers = written_line Pgas ++ (written_line (Object object) ++ written_line (Callers callers))
+
 abbrev pub written : PlainScript → List ℕ
-written script =
-    written_line Pgas ++ (written_line (Object script.object) ++ (written_line (Callers script.callers) ++ (written_rounds script.rounds ++ written_line End)))
+written script = written_head script.object script.callers ++ (written_rounds script.rounds ++ written_line End)
 
 -- ---- validity
 

@@ -1,92 +1,62 @@
-ghost use Rattle.std.specs.Prelude.{◌≡◌, ◌+◌, ◌≤◌, ◌<◌, ◌^◌, [], ◌∷◌, ◌++◌, Some, OnOk, IfOk, IfErr, MatchResult, length, map, replicate};
-ghost use Rattle.script_text.specs.Lines.{MayCome, stage_after};
+ghost use Rattle.std.specs.Prelude.{◌≡◌, ◌^◌, [], ◌∷◌, ◌++◌, OnOk, IfOk, MatchResult, length, map, replicate};
+ghost use Rattle.line_text.specs.Lines.{IsSaid};
+ghost use Rattle.script_text.specs.Forms.{IsSpot, script_grammar};
+ghost use Rattle.script_text.specs.Lines.{IsInRound, caller_at};
 ghost use Rattle.script_text.specs.Scripts.{plain_round, plain_script};
-ghost use Rattle.script_text.specs.ScriptText.{beginning, line_after, before_after, calls_after, caller_at, with_call, counts, IsMade};
-ghost use Rattle.script_text.specs.Standing.{progress_of, IsDraft, IsTakeFault};
+ghost use Rattle.script_text.specs.ScriptText.{beginning, after, line_after, before_after, calls_after, with_call, is_counted, is_end, script_rules, IsMade};
 
-use crate::faults::ScriptFault;
+use crate::forms::Spot;
 use crate::lines::{Line, Stage};
 use crate::scripts::{Call, Round, Script};
+use line_text::Draft;
 use shared_io::TooKind;
 use std::alloc::{AllocError, Global};
+use std::marker::Model;
 use std::mem;
 
 /// The most calls and `round` lines of a script.
-const MOST_COUNTED: u32 = 1 << 20;
+const MOST_COUNTED: u64 = 1 << 20;
 
 /// What the lines so far have made of a script.
 #[derive(Debug, Drop)]
-pub struct Draft {
-    pub stage: Stage,
+pub struct ScriptDraft {
+    stage: Stage,
     /// The rounds before the present one.
-    pub before: Vec<Round>,
+    before: Vec<Round>,
     /// The calls of the present round.
-    pub calls: Vec<Vec<Call>>,
-    /// How many calls and `round` lines there were.
-    pub counted: u32,
-    /// The number of the line that is being read.
-    pub line: u64,
+    calls: Vec<Vec<Call>>,
 }
 
-impl Draft {
-    pub fn new(alloc: Global) -> Draft
-        ensures progress { progress_of result ≡ beginning }
-        ensures counted { result.counted ≡ 0 }
-        ensures line { result.line ≡ 1 }
-        ensures draft { IsDraft result }
+impl Model for ScriptDraft {
+    ghost use Rattle.std.specs.Prelude.{map};
+    ghost use Rattle.script_text.specs.Drafts.{Progress};
+    ghost use Rattle.script_text.specs.Scripts.{plain_round};
+
+    ghost Value = { Progress };
+
+    ghost view = { λ d. record { stage = d.stage; before = map plain_round d.before.items; calls = map (λ calls. calls.items) d.calls.items } };
+}
+
+impl ScriptDraft {
+    pub fn new(alloc: Global) -> Self
+        ensures { result ≡ beginning }
     {
-        Draft {
+        ScriptDraft {
             stage: Stage::AtPgas,
             before: Vec::new(alloc),
             calls: Vec::new(alloc),
-            counted: 0,
-            line: 1,
         }
     }
 
-    /// Goes on to the next line, where this one says nothing.
-    pub fn skip(&mut self)
-        requires { self.old.line < 2 ^ 63 }
-        ensures { self.new ≡ record self.old { line = self.old.line + 1 } }
-    {
-        self.line += 1;
-    }
-
-    /// Takes what a line says.
-    pub fn take(&mut self, alloc: Global, line: Line) -> Result<(), ScriptFault>
-        requires draft { IsDraft self.old }
-        requires may_come { MayCome self.old.stage line }
-        requires lines { self.old.line < 2 ^ 63 }
-        ensures progress { OnOk result (progress_of self.new ≡ line_after (progress_of self.old) line) }
-        ensures counted { OnOk result (self.new.counted ≡ self.old.counted + counts (Some line)) }
-        ensures line { OnOk result (self.new.line ≡ self.old.line + 1) }
-        ensures draft { OnOk result (IsDraft self.new) }
-        ensures err { IfErr result (λ fault. IsTakeFault self.old line fault) }
-    {
-        let counted = counted_with(self.counted, line, self.line)?;
-        take_calls(
-            alloc,
-            &mut self.before,
-            &mut self.calls,
-            self.stage.caller(),
-            line,
-        )?;
-        self.counted = counted;
-        self.stage = self.stage.after(line);
-        self.line += 1;
-        Ok(())
-    }
-
     /// The script that the lines have made.
-    pub fn finish(self) -> Result<Script, ScriptFault>
-        requires { MayCome self.stage Line.End }
-        ensures { MatchResult result (λ script. IsMade (progress_of self) (plain_script script)) (λ fault. fault ≡ ScriptFault.OutOfMemory) }
+    pub fn finish(self) -> Result<Script, AllocError>
+        requires { IsInRound self.stage }
+        ensures { IfOk result (λ script. IsMade self (plain_script script)) }
     {
-        let Draft {
+        let ScriptDraft {
             stage,
-            mut before,
+            before: mut rounds,
             calls,
-            ..
         } = self;
         let Stage::InRound {
             object,
@@ -96,107 +66,82 @@ impl Draft {
         else {
             unreachable!()
         };
-        before.push(Round { calls })?;
+        rounds.push(Round { calls })?;
         Ok(Script {
             object,
             callers,
-            rounds: before,
+            rounds,
         })
     }
-}
 
-impl Stage {
-    /// Whose calls come.
-    fn caller(self) -> usize
-        ensures { result ≡ caller_at self }
+    /// Takes what a line says.
+    #[inline(always)]
+    fn take_line(&mut self, line: Line) -> Result<(), AllocError>
+        ensures { OnOk result (self.new ≡ line_after self.old line) }
     {
-        match self {
-            Stage::InRound {
-                caller: Some(caller),
-                ..
-            } => caller as usize,
-            _ => 0,
+        match line {
+            Line::Callers { callers } => {
+                self.calls = silence(*self.calls.allocator(), callers as usize)?;
+            }
+            Line::Round => end_round(&mut self.before, &mut self.calls)?,
+            Line::Call { call } => push_call(&mut self.calls, self.stage.caller(), call)?,
+            _ => (),
         }
+        self.stage = self.stage.after(line);
+        Ok(())
+    }
+}
+
+impl Draft<Line, Spot> for ScriptDraft {
+    type Progress = ScriptDraft;
+
+    ghost rules = { script_rules };
+
+    ghost progress = { λ d. d };
+
+    // What is asked and taken for each line is inlined into the reader's loop, so that no line is copied from call to call.
+    #[inline(always)]
+    fn start(&self) -> Spot {
+        self.stage.start()
     }
 
-    /// What may come behind a line.
-    fn after(self, line: Line) -> Stage
-        ensures { result ≡ stage_after self line }
+    #[inline(always)]
+    fn counts(&self, said: Option<Line>) -> bool
+        ensures { result ≡ is_counted said }
     {
-        match (self, line) {
-            (Stage::AtPgas, _) => Stage::AtObject,
-            (Stage::AtObject, Line::Object { object }) => Stage::AtCallers { object },
-            (Stage::AtCallers { object }, Line::Callers { callers }) => Stage::InRound {
-                object,
-                callers,
-                caller: None,
-            },
-            (
-                Stage::InRound {
-                    object,
-                    callers,
-                    ..
-                },
-                Line::Caller { caller },
-            ) => Stage::InRound {
-                object,
-                callers,
-                caller: Some(caller),
-            },
-            (
-                Stage::InRound {
-                    object,
-                    callers,
-                    ..
-                },
-                Line::Round,
-            ) => Stage::InRound {
-                object,
-                callers,
-                caller: None,
-            },
-            (stage, _) => stage,
-        }
+        matches!(said, Some(Line::Round | Line::Call { .. }))
     }
-}
 
-/// How many calls and `round` lines there are with this line.
-fn counted_with(counted: u32, line: Line, number: u64) -> Result<u32, ScriptFault>
-    requires { counted ≤ 2 ^ 20 }
-    ensures { MatchResult result
-        (λ more. (more ≡ counted + counts (Some line)) × (more ≤ 2 ^ 20))
-        (λ fault. (fault ≡ ScriptFault.TooLarge TooKind.Calls number) × (counted ≡ 2 ^ 20) × (counts (Some line) ≡ 1)) }
-{
-    match line {
-        Line::Round | Line::Call { .. } if counted == MOST_COUNTED => Err(ScriptFault::TooLarge {
-            kind: TooKind::Calls,
-            line: number,
-        }),
-        Line::Round | Line::Call { .. } => Ok(counted + 1),
-        _ => Ok(counted),
+    fn most(&self) -> u64 {
+        MOST_COUNTED
     }
-}
 
-/// Takes what a line says of the rounds and the calls.
-fn take_calls(
-    alloc: Global,
-    before: &mut Vec<Round>,
-    calls: &mut Vec<Vec<Call>>,
-    caller: usize,
-    line: Line,
-) -> Result<(), AllocError>
-    requires { (call : Call) → line ≡ Line.Call call → caller < length calls.old.items }
-    ensures before { OnOk result (map plain_round before.new.items ≡ before_after line (map plain_round before.old.items) (map (λ calls. calls.items) calls.old.items)) }
-    ensures calls { OnOk result ((stage : Stage) → caller ≡ caller_at stage → map (λ calls. calls.items) calls.new.items ≡ calls_after stage line (map (λ calls. calls.items) calls.old.items)) }
-{
-    match line {
-        Line::Callers { callers } => {
-            *calls = silence(alloc, callers as usize)?;
-            Ok(())
+    fn kind(&self) -> TooKind {
+        TooKind::Calls
+    }
+
+    #[inline(always)]
+    fn ends(&self, said: Option<Line>) -> bool
+        ensures { result ≡ is_end said }
+    {
+        matches!(said, Some(Line::End))
+    }
+
+    fn may_be_last(&self, said: Option<Line>) -> bool
+        ensures { result ≡ is_end said }
+    {
+        self.ends(said)
+    }
+
+    #[inline(always)]
+    fn take(&mut self, said: Option<Line>) -> Result<(), AllocError>
+        requires { IsSaid script_grammar IsSpot said }
+        ensures { OnOk result (self.new ≡ after self.old said) }
+    {
+        match said {
+            Some(line) => self.take_line(line),
+            None => Ok(()),
         }
-        Line::Round => end_round(alloc, before, calls),
-        Line::Call { call } => push_call(calls, caller, call),
-        _ => Ok(()),
     }
 }
 
@@ -212,31 +157,30 @@ fn silence(alloc: Global, callers: usize) -> Result<Vec<Vec<Call>>, AllocError>
 }
 
 /// Adds the present round to those before it, and begins another.
-fn end_round(
-    alloc: Global,
-    before: &mut Vec<Round>,
-    calls: &mut Vec<Vec<Call>>,
-) -> Result<(), AllocError>
+fn end_round(before: &mut Vec<Round>, calls: &mut Vec<Vec<Call>>) -> Result<(), AllocError>
     ensures before { OnOk result (map plain_round before.new.items ≡ map plain_round before.old.items ++ map (λ calls. calls.items) calls.old.items ∷ []) }
     ensures calls { OnOk result (map (λ calls. calls.items) calls.new.items ≡ replicate (length calls.old.items) []) }
 {
-    let next = silence(alloc, calls.len())?;
-    let calls = mem::replace(calls, next);
-    before.push(Round { calls })?;
+    let next = silence(*calls.allocator(), calls.len())?;
+    before.push(Round {
+        calls: mem::replace(calls, next),
+    })?;
     Ok(())
 }
 
-/// Adds a call of a caller.
+/// Adds a call of a caller. A script may have many rounds of one call, so the first call takes no more
+/// memory than it needs.
+#[inline(always)]
 fn push_call(calls: &mut Vec<Vec<Call>>, caller: usize, call: Call) -> Result<(), AllocError>
-    requires { caller < length calls.old.items }
     ensures { OnOk result (map (λ calls. calls.items) calls.new.items ≡ with_call caller call (map (λ calls. calls.items) calls.old.items)) }
 {
-    add_call(&mut calls[caller], call)?;
+    if caller < calls.len() {
+        add_call(&mut calls[caller], call)?;
+    }
     Ok(())
 }
 
-/// Adds a call to a list. A script may have many rounds of one call, so the first call takes no more
-/// memory than it needs.
+#[inline(always)]
 fn add_call(list: &mut Vec<Call>, call: Call) -> Result<(), AllocError>
     ensures { OnOk result (list.new.items ≡ list.old.items ++ call ∷ []) }
 {

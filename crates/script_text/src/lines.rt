@@ -1,4 +1,18 @@
+ghost use Rattle.std.specs.Prelude.{◌≡◌};
+ghost use Rattle.script_text.specs.Lines.{kind_of, most_callers, caller_at, stage_after};
+
 use crate::scripts::{Call, ObjectLine};
+
+/// The most callers of a shared object.
+const MOST_CALLERS: u32 = 64;
+
+/// A kind of object.
+#[derive(Clone, Copy, Debug, PartialEq, Eq)]
+pub enum Kind {
+    List,
+    Bag,
+    Deque,
+}
 
 /// What a line says, unless it is blank or a comment.
 #[derive(Clone, Copy, Debug, PartialEq, Eq)]
@@ -32,4 +46,85 @@ pub enum Stage {
         callers: u32,
         caller: Option<u32>,
     },
+}
+
+impl ObjectLine {
+    #[inline(always)]
+    pub fn kind(self) -> Kind
+        ensures { result ≡ kind_of self }
+    {
+        match self {
+            ObjectLine::List { .. } => Kind::List,
+            ObjectLine::Bag { .. } => Kind::Bag,
+            ObjectLine::Deque { .. } => Kind::Deque,
+        }
+    }
+
+    /// The most callers: many share a bag or a deque, a list has one.
+    pub fn most_callers(self) -> u32
+        ensures { result ≡ most_callers self }
+    {
+        match self {
+            ObjectLine::List { .. } => 1,
+            ObjectLine::Bag { .. } | ObjectLine::Deque { .. } => MOST_CALLERS,
+        }
+    }
+}
+
+impl Stage {
+    /// Whose calls come.
+    #[inline(always)]
+    pub fn caller(self) -> usize
+        ensures { result ≡ caller_at self }
+    {
+        match self {
+            Stage::InRound {
+                caller: Some(caller),
+                ..
+            } => caller as usize,
+            _ => 0,
+        }
+    }
+
+    /// What may come behind a line.
+    #[inline(always)]
+    pub fn after(self, line: Line) -> Stage
+        ensures { result ≡ stage_after self line }
+    {
+        match (self, line) {
+            (Stage::AtPgas, _) => Stage::AtObject,
+            (Stage::AtObject, Line::Object { object }) => Stage::AtCallers { object },
+            (Stage::AtCallers { object }, Line::Callers { callers }) => {
+                in_round(object, callers, None)
+            }
+            (
+                Stage::InRound {
+                    object,
+                    callers,
+                    ..
+                },
+                Line::Caller { caller },
+            ) => { in_round(object, callers, Some(caller)) }
+            (
+                Stage::InRound {
+                    object,
+                    callers,
+                    ..
+                },
+                Line::Round,
+            ) => { in_round(object, callers, None) }
+            (stage, _) => stage,
+        }
+    }
+}
+
+#[inline(always)]
+fn in_round(object: ObjectLine, callers: u32, caller: Option<u32>) -> Stage
+    ensures { result ≡ Stage.InRound object callers caller }
+{
+    Stage::InRound {
+        object,
+        callers,
+        caller,
+    }
 }

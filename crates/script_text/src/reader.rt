@@ -1,56 +1,16 @@
-ghost use Rattle.std.specs.Prelude.{◌≡◌, ℕ, List, Some, IfOk, MatchResult, vec_len};
-ghost use Rattle.script_text.specs.Reading.{Reading, IsExcuse, IsRefusal};
+ghost use Rattle.std.specs.Prelude.{◌≡◌, ℕ, List, Some, IfOk, MatchResult};
+ghost use Rattle.line_text.specs.declared.faults.TextFault.{TextFault};
+ghost use Rattle.line_text.specs.Readings.{IsExcuse, IsRefusal};
+ghost use Rattle.script_text.specs.Reading.{Reading};
 ghost use Rattle.script_text.specs.Scripts.{PlainScript, plain_script, IsValid};
 ghost use Rattle.script_text.specs.ScriptText.{HasScript, IsRefused};
-ghost use Rattle.script_text.specs.declared.faults.ScriptFault.{ScriptFault};
 ghost use Rattle.shared_io.specs.Counts.{Rose};
 
-use crate::bytes::{Reached, at_end, take_piece};
-use crate::drafts::Draft;
-use crate::faults::ScriptFault;
-use crate::places::Place;
+use crate::drafts::ScriptDraft;
 use crate::scripts::Script;
+use line_text::{TextFault as ScriptFault, read_text};
 use shared_io::Source;
-use std::alloc::{AllocError, Global};
-
-/// The most bytes of a text, without the LF that ends its last line.
-const MOST_BYTES: usize = 1 << 30;
-
-/// How many bytes are asked for at once.
-const PIECE: usize = 1 << 16;
-
-/// Reads a script, piece by piece.
-fn read_pieces<S: Source>(alloc: Global, source: &mut S) -> Result<Script, ScriptFault>
-    ensures { Reading (S.left source.old) (S.left source.new) (S.faults source.old) (S.faults source.new) result }
-{
-    let mut buffer = zeros(alloc, PIECE)?;
-    let mut draft = Draft::new(alloc);
-    let mut place = Place::Lead {
-        choice: draft.stage.choice(),
-    };
-    let mut total = 0;
-    loop {
-        // Behind the last byte that a text can have one more is asked for: the LF of the line `end`.
-        let room = MOST_BYTES - total;
-        let piece = &mut buffer[..PIECE.min(room + 1)];
-        let count = source.read(piece)?;
-        if count == 0 {
-            return at_end(draft, place);
-        }
-        match take_piece(&mut draft, alloc, place, &piece[..count], room)? {
-            Reached::Within { place: next } => place = next,
-            Reached::End => return draft.finish(),
-        }
-        total += count;
-    }
-}
-
-/// So many zeros.
-fn zeros(alloc: Global, count: usize) -> Result<Vec<u8>, AllocError>
-    ensures { IfOk result (λ bytes. vec_len bytes ≡ count) }
-{
-    vec![in alloc; 0u8; count]
-}
+use std::alloc::Global;
 
 /// Reads a script from the source, up to the end of its line `end`.
 ///
@@ -68,8 +28,10 @@ pub fn read_script<S: Source>(alloc: Global, source: &mut S) -> Result<Script, S
     // Where the source tells its bytes, the answer is that of the whole input.
     ensures accepted { (input : List ℕ) (script : PlainScript) → S.left source.old ≡ Some input → HasScript input (Unit {0}) script
         → MatchResult result (λ read. plain_script read ≡ script) (IsExcuse (Rose (S.faults source.old) (S.faults source.new))) }
-    ensures refused { (input : List ℕ) (refusal : ScriptFault) → S.left source.old ≡ Some input → IsRefused input (Unit {0}) refusal
+    ensures refused { (input : List ℕ) (refusal : TextFault) → S.left source.old ≡ Some input → IsRefused input (Unit {0}) refusal
         → MatchResult result (λ _. ⊥) (IsRefusal refusal (Rose (S.faults source.old) (S.faults source.new))) }
 {
-    read_pieces(alloc, source)
+    let mut draft = ScriptDraft::new(alloc);
+    read_text(alloc, source, &mut draft)?;
+    Ok(draft.finish()?)
 }

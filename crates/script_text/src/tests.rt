@@ -5,7 +5,7 @@ use crate::{
     Call, Left, ObjectLine, Replies, Reply, Script, ScriptFault, inputs_mean_one, read_script,
     write_replies, write_script,
 };
-use shared_io::{SureSource, TooKind};
+use shared_io::{SureSource, TextSource, TooKind};
 use std::alloc::Global;
 use std::test::Fail;
 
@@ -57,7 +57,7 @@ const REFUSED: [(&[u8], u64); 54] = [
     (b"pgas 1\nobject deque 1 1\ncallers 0\n", 3),
     (b"pgas 1\nobject deque 1 1\ncallers 65", 3),
     (b"pgas 1\nobject list 1 2 2\ncallers 2", 3),
-    (b"pgas 1\nobject bag 1 1 1\ncallers 2", 3),
+    (b"pgas 1\nobject bag 1 1 1\ncallers 65", 3),
     (b"pgas 1\nobject deque 1 1\ncallers 2\ncaller 2", 4),
     (b"pgas 1\nobject deque 1 1\ncallers 2\ncaller 0\ntry", 5),
     (b"pgas 1\nobject deque 1 1\ncallers 1\n", 4),
@@ -228,4 +228,62 @@ fn counts_calls(rt: HostRuntime) -> Result<(), Fail> {
 #[test]
 fn the_law_of_inputs_holds() {
     inputs_mean_one();
+}
+
+// Of a script of 9 lines in pieces of 16 bytes each read fails in turn, once only, and is told; behind the
+// line `end` no read is made.
+#[test]
+fn a_failed_read_is_told_once(rt: HostRuntime) -> Result<(), Fail> {
+    let calls = ROW.len().div_ceil(16) as u64;
+    for fails in 1..=calls {
+        let fail = vec![in rt.alloc(); fails]?;
+        let mut source = TextSource::new(ROW.to_vec(rt.alloc())?, fail, 16);
+        let answer = read_script(rt.alloc(), &mut source);
+        assert_eq!(rt;
+            answer.err(),
+            Some(ScriptFault::ReadFault),
+            "failing at call {fails}"
+        );
+    }
+    let fail = vec![in rt.alloc(); calls + 1]?;
+    let mut source = TextSource::new(ROW.to_vec(rt.alloc())?, fail, 16);
+    assert!(rt; read_script(rt.alloc(), &mut source).is_ok());
+    Ok(())
+}
+
+// Each number at its limit may stand, and one past it is refused at its line.
+#[test]
+fn numbers_have_limits(rt: HostRuntime) -> Result<(), Fail> {
+    let rows: [(&[u8], &[u8], u64); 7] = [
+        (b"object list 16 524288 2", b"object list 16 524289", 2),
+        (b"object list 1 8192 4094", b"object list 1 8192 4095", 2),
+        (b"object bag 16 64 16777216", b"object bag 17", 2),
+        (b"object deque 16 16777216", b"object deque 16 16777217", 2),
+        (
+            b"object bag 1 1 1\ncallers 64",
+            b"object bag 1 1 1\ncallers 65",
+            3,
+        ),
+        (
+            b"object list 1 2 2\ncallers 1",
+            b"object list 1 2 2\ncallers 2",
+            3,
+        ),
+        (
+            b"object deque 1 1\ncallers 2\ncaller 1",
+            b"object deque 1 1\ncallers 2\ncaller 2",
+            4,
+        ),
+    ];
+    for (within, past, line) in rows {
+        for (text, want) in [(within, None), (past, Some(bad(line)))] {
+            let mut bytes = Vec::from_slice(rt.alloc(), b"pgas 1\n")?;
+            bytes.extend_from_slice(text)?;
+            bytes.extend_from_slice(b"\n?")?;
+            let refused = text.iter().filter(|byte| **byte == b'\n').count() as u64;
+            let fault = read(rt.alloc(), &bytes).err();
+            assert_eq!(rt; fault, want.or(Some(bad(refused.saturating_add(3)))));
+        }
+    }
+    Ok(())
 }

@@ -1,14 +1,15 @@
-ghost use Rattle.std.specs.Prelude.{◌≡◌, ◌++◌, ◌∷◌, [], OnOk, IfOk, string_bytes, map, decimal};
-ghost use Rattle.script_text.specs.Lines.{list_tokens, bag_tokens, deque_tokens};
+ghost use Rattle.std.specs.Prelude.{◌≡◌, ◌<◌, ◌++◌, ◌∷◌, [], OnOk, IfOk, string_bytes, map, decimal};
+ghost use Rattle.line_text.specs.Words.{spaced, words_line};
 ghost use Rattle.script_text.specs.Replies.{reply_text, caller_text, left_text, replies_text};
+ghost use Rattle.script_text.specs.Rows.{is_once, listed, words_of, written_line};
 ghost use Rattle.script_text.specs.ScriptText.{HasScript};
-ghost use Rattle.script_text.specs.Scripts.{written, plain_script, IsValid, written_line, written_words, written_try, written_calls, plain_round, written_callers, written_rounds};
+ghost use Rattle.script_text.specs.Scripts.{written, written_head, plain_script, IsValid, written_calls, plain_round, written_callers, written_rounds};
 
 use crate::lines::Line;
 use crate::replies::{Left, Replies, Reply};
+use crate::rows::{Numbers, call_word, numbers_of, object_word};
 use crate::scripts::{Call, ObjectLine, Round, Script};
 use itoa::Buffer;
-use seq_objects::{BagCall, DequeCall, ListCall};
 use std::alloc::{AllocError, Global};
 use std::fmt::Write;
 
@@ -86,91 +87,64 @@ pub fn write_replies(alloc: Global, replies: &Replies) -> Result<String, AllocEr
     Ok(text)
 }
 
-fn push_object(text: &mut String, object: ObjectLine) -> Result<(), AllocError>
-    ensures { OnOk result (string_bytes text.new ≡ string_bytes text.old ++ written_line (Line.Object object)) }
+/// Adds the words of a line that stand before its numbers.
+fn push_words(text: &mut String, line: Line) -> Result<(), AllocError>
+    ensures { OnOk result (string_bytes text.new ≡ string_bytes text.old ++ words_line (words_of line)) }
 {
-    match object {
-        ObjectLine::List {
-            locales,
-            objects,
-            width,
-        } => writeln!(text, "object list {locales} {objects} {width}"),
-        ObjectLine::Bag {
-            locales,
-            segments,
-            room,
-        } => writeln!(text, "object bag {locales} {segments} {room}"),
-        ObjectLine::Deque { locales, capacity } => {
-            writeln!(text, "object deque {locales} {capacity}")
-        }
+    match line {
+        Line::Pgas => text.push_str("pgas 1"),
+        Line::Object { object } => push_both(text, "object ", object_word(object)),
+        Line::Callers { .. } => text.push_str("callers"),
+        Line::Caller { .. } => text.push_str("caller"),
+        Line::Round => text.push_str("round"),
+        Line::Call { call } if is_once(call) => push_both(text, "try ", call_word(call)),
+        Line::Call { call } => text.push_str(call_word(call)),
+        Line::End => text.push_str("end"),
     }
 }
 
-fn push_list_call(text: &mut String, call: ListCall) -> Result<(), AllocError>
-    ensures { OnOk result (string_bytes text.new ≡ string_bytes text.old ++ (written_words (list_tokens call) ++ 10 ∷ [])) }
+fn push_both(text: &mut String, one: &str, other: &str) -> Result<(), AllocError>
+    ensures { OnOk result (string_bytes text.new ≡ string_bytes text.old ++ (one.now ++ other.now)) }
+{
+    text.push_str(one)?;
+    text.push_str(other)
+}
+
+fn is_once(call: Call) -> bool
+    ensures { result ≡ is_once call }
 {
     match call {
-        ListCall::Read { at } => writeln!(text, "read {at}"),
-        ListCall::Write { at, value } => writeln!(text, "write {at} {value}"),
-        ListCall::Swap { at, old, new } => writeln!(text, "swap {at} {old} {new}"),
-        ListCall::Add { at, value } => writeln!(text, "add {at} {value}"),
-        ListCall::Grow { to } => writeln!(text, "grow {to}"),
-        ListCall::Len => text.push_str("len\n"),
+        Call::List { .. } => false,
+        Call::Bag { once, .. } | Call::Deque { once, .. } => once,
     }
 }
 
-fn push_callers(text: &mut String, callers: u32) -> Result<(), AllocError>
-    ensures { OnOk result (string_bytes text.new ≡ string_bytes text.old ++ written_line (Line.Callers callers)) }
+/// Adds numbers, with a space before each.
+fn push_numbers(text: &mut String, numbers: Numbers) -> Result<(), AllocError>
+    requires { numbers.count < 4 }
+    ensures { OnOk result (string_bytes text.new ≡ string_bytes text.old ++ spaced (map decimal (listed numbers))) }
 {
-    writeln!(text, "callers {callers}")
-}
-
-fn push_bag_call(text: &mut String, call: BagCall) -> Result<(), AllocError>
-    ensures { OnOk result (string_bytes text.new ≡ string_bytes text.old ++ (written_words (bag_tokens call) ++ 10 ∷ [])) }
-{
-    match call {
-        BagCall::Add { item } => writeln!(text, "add {item}"),
-        BagCall::Remove => text.push_str("remove\n"),
+    let Numbers {
+        count,
+        first,
+        second,
+        third,
+    } = numbers;
+    match count {
+        0 => Ok(()),
+        1 => write!(text, " {first}"),
+        2 => write!(text, " {first} {second}"),
+        _ => write!(text, " {first} {second} {third}"),
     }
 }
 
-fn push_named(text: &mut String, name: &str, item: u64) -> Result<(), AllocError>
-    ensures { OnOk result (string_bytes text.new ≡ string_bytes text.old ++ (name.now ++ (32 ∷ (decimal item ++ 10 ∷ [])))) }
+/// Adds a line.
+fn push_whole(text: &mut String, line: Line) -> Result<(), AllocError>
+    ensures { OnOk result (string_bytes text.new ≡ string_bytes text.old ++ written_line line) }
 {
-    writeln!(text, "{name} {item}")
-}
-
-fn push_deque_call(text: &mut String, call: DequeCall) -> Result<(), AllocError>
-    ensures { OnOk result (string_bytes text.new ≡ string_bytes text.old ++ (written_words (deque_tokens call) ++ 10 ∷ [])) }
-{
-    match call {
-        DequeCall::PushBack { item } => push_named(text, "push_back", item),
-        DequeCall::PushFront { item } => push_named(text, "push_front", item),
-        DequeCall::PopBack => text.push_str("pop_back\n"),
-        DequeCall::PopFront => text.push_str("pop_front\n"),
-    }
-}
-
-fn push_try(text: &mut String, once: bool) -> Result<(), AllocError>
-    ensures { OnOk result (string_bytes text.new ≡ string_bytes text.old ++ written_try once) }
-{
-    text.push_str(if once { "try " } else { "" })
-}
-
-fn push_call(text: &mut String, call: Call) -> Result<(), AllocError>
-    ensures { OnOk result (string_bytes text.new ≡ string_bytes text.old ++ written_line (Line.Call call)) }
-{
-    match call {
-        Call::List { call } => push_list_call(text, call),
-        Call::Bag { call, once } => {
-            push_try(text, once)?;
-            push_bag_call(text, call)
-        }
-        Call::Deque { call, once } => {
-            push_try(text, once)?;
-            push_deque_call(text, call)
-        }
-    }
+    push_words(text, line)?;
+    push_numbers(text, numbers_of(line))?;
+    text.push_str("\n")
 }
 
 /// Adds the lines of a caller in a round.
@@ -182,7 +156,7 @@ fn push_calls(text: &mut String, caller: usize, calls: &[Call]) -> Result<(), Al
     }
     writeln!(text, "caller {caller}")?;
     for call in calls {
-        push_call(text, *call)?;
+        push_whole(text, Line::Call { call: *call })?;
     }
     Ok(())
 }
@@ -206,10 +180,19 @@ fn push_rounds(text: &mut String, rounds: &[Round]) -> Result<(), AllocError>
     };
     push_round(text, first)?;
     for round in others {
-        text.push_str("round\n")?;
+        push_whole(text, Line::Round)?;
         push_round(text, round)?;
     }
     Ok(())
+}
+
+/// Adds the lines before the rounds.
+fn push_head(text: &mut String, object: ObjectLine, callers: u32) -> Result<(), AllocError>
+    ensures { OnOk result (string_bytes text.new ≡ string_bytes text.old ++ written_head object callers) }
+{
+    push_whole(text, Line::Pgas)?;
+    push_whole(text, Line::Object { object })?;
+    push_whole(text, Line::Callers { callers })
 }
 
 /// The text of the script: its lines in order, with single spaces and no leading zeros, in each round a
@@ -221,10 +204,8 @@ pub fn write_script(alloc: Global, script: &Script) -> Result<String, AllocError
     ensures reads { IfOk result (λ text. HasScript (string_bytes text) (Unit {0}) (plain_script script.now)) }
 {
     let mut text = String::new(alloc);
-    text.push_str("pgas 1\n")?;
-    push_object(&mut text, script.object)?;
-    push_callers(&mut text, script.callers)?;
+    push_head(&mut text, script.object, script.callers)?;
     push_rounds(&mut text, &script.rounds)?;
-    text.push_str("end\n")?;
+    push_whole(&mut text, Line::End)?;
     Ok(text)
 }

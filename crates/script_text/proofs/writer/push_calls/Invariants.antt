@@ -1,7 +1,7 @@
 use Rattle.std.proofs.Common.{◌≡◌, ◌++◌, take, string_bytes}
 use Rattle.std.specs.List.{flat_map}
 use Rattle.script_text.specs.declared.lines.Line.TheVariants.{Caller, Call as ACall}
-use Rattle.script_text.specs.Scripts.{written_line}
+use Rattle.script_text.specs.Rows.{written_line}
 use Rattle.script_text.proofs.writer.push_calls.Given as goal
 
 abbrev pub invariant-loop-call : goal.invariant-loop-call

@@ -1,7 +1,8 @@
 use Rattle.std.proofs.Common.{◌≡◌, ◌++◌, drop, map, string_bytes}
 use Rattle.std.specs.List.{flat_map}
 use Rattle.script_text.specs.declared.lines.Line.TheVariants.{Round}
-use Rattle.script_text.specs.Scripts.{written_callers, written_line, plain_round, written_rounds}
+use Rattle.script_text.specs.Rows.{written_line}
+use Rattle.script_text.specs.Scripts.{written_callers, plain_round, written_rounds}
 use Rattle.script_text.proofs.writer.push_rounds.Given as goal
 
 abbrev pub invariant-loop-round : goal.invariant-loop-round
