@@ -14,3 +14,4 @@ pub mod WayLoops
 pub mod NeedLists
 pub mod Runs
 pub mod Opened
+pub mod ListedItems

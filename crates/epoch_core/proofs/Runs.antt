@@ -1,5 +1,5 @@
 -- A run that goes on.
-use Rattle.std.proofs.Common.{◌≡◌, ℕ, false, List, [], ◌∷◌, ◌++◌, Result, Ok, Err, refl, sym, subst}
+use Rattle.std.proofs.Common.{◌≡◌, ℕ, false, List, Result, Ok, Err, sym, subst}
 use Rattle.pgas_base.specs.declared.shapes.Shape.{Shape}
 use Rattle.pgas_base.specs.declared.starts.Start.{Start}
 use Rattle.epoch_laws.specs.declared.steps.Illegal.{Illegal}
@@ -8,10 +8,11 @@ use Rattle.epoch_laws.specs.declared.steps.Seen.{Seen}
 use Rattle.epoch_laws.specs.declared.steps.Step.{Step}
 use Rattle.epoch_laws.specs.Laws.{IsNobodys, TakesNobodys}
 use Rattle.epoch_laws.specs.Places.{Place, is_among}
-use Rattle.epoch_laws.specs.Runs.{AreAllowed, IsAllowed, outcome, state_after}
+use Rattle.epoch_laws.specs.Runs.{state_after}
 use Rattle.epoch_laws.specs.States.{State, opening}
 use Rattle.epoch_laws.specs.Steps.{move}
 use Rattle.epoch_laws.proofs.SoundRuns.{objects_are_apart}
+use Rattle.epoch_laws.proofs.Onward.{allowed_then, after_then}
 use Rattle.epoch_core.specs.declared.machine.Machine.{Machine}
 use Rattle.epoch_core.specs.declared.marks.Role.{Role}
 use Rattle.epoch_core.specs.declared.marks.Role.TheVariants.{Owner, Hand, Walker}
@@ -20,14 +21,6 @@ use Rattle.epoch_core.specs.Fresh.{IsFresh}
 use Rattle.epoch_core.specs.Marks.{list_of}
 use Rattle.epoch_core.specs.Runs.{Goes, IsAfter, TakesFresh}
 use Rattle.epoch_core.specs.Shown.{IsShowing}
-
-allowed_then : (s : State) (steps : List Step) (step : Step) → AreAllowed s steps → IsAllowed (state_after s steps) step → AreAllowed s (steps ++ step ∷ [])
-allowed_then s [] step before one = (one, tt)
-allowed_then s (first ∷ steps) step before one = (before.0, allowed_then ((outcome s first).next) steps step before.1 one)
-
-after_then : (s : State) (steps : List Step) (step : Step) → state_after s (steps ++ step ∷ []) ≡ (outcome (state_after s steps) step).next
-after_then s [] step = refl
-after_then s (first ∷ steps) step = after_then ((outcome s first).next) steps step
 
 unkept : (s : State) (p : Place) → IsNobodys s p → (role : Role) (c : ℕ) → is_among p (list_of role (s.seat c)) ≡ false
 unkept s p one Owner c = one.owned c

@@ -12,3 +12,4 @@ pub mod Ends
 pub mod ChainNeeds
 pub mod Runs
 pub mod Opened
+pub mod Listed

@@ -11,6 +11,7 @@ mod checks;
 mod deferrals;
 mod holds;
 mod homes;
+mod items;
 mod machine;
 mod marks;
 mod objects;
@@ -26,4 +27,5 @@ mod ways;
 mod words;
 
 pub use epoch_laws::{EpochEvent, Illegal, Item, Kind, Seen, Step, Token};
+pub use items::Listed;
 pub use machine::Machine;

@@ -24,6 +24,7 @@ mod Told
 mod Tells
 mod TellsTokens
 mod TellsObjects
-mod Theorem
+pub mod Theorem
 mod Elections
 mod Holds
+pub mod Onward

@@ -135,7 +135,7 @@ takes_nobodys s m sound is c = record {
       nobodys s m sound _ (at_ InRest c) (subst (λ x. is_among (place_in ((s.seat c).reclaim.chain)) x ≡ true) (sym path.1) (among_here _ path.0)) (λ e. absurd (cc e)) (λ e. absurd (cc e)) (λ e. absurd (cc e));
 }
 
-shape_after : (s : State) (steps : List Step) → (state_after s steps).shape ≡ s.shape
+pub shape_after : (s : State) (steps : List Step) → (state_after s steps).shape ≡ s.shape
 shape_after s [] = refl
 shape_after s (step ∷ steps) = shape_after ((outcome s step).next) steps ∙ shape_kept s step.seat step.kind
 

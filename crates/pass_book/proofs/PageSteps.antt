@@ -3,7 +3,7 @@ use Rattle.std.proofs.Common.{◌≡◌, ◌≢◌, ℕ, List, [], ◌∷◌, �
 use mathlib.Core.List.{IsPrefix}
 use Rattle.pass_book.specs.declared.entries.Entry.{Entry}
 use Rattle.pass_book.specs.Histories.{entries_of, IsOfOthers, IsOfCallers, IsLegal}
-use Rattle.pass_book.specs.Pages.{Page, IsPage, IsPageOf, Learns, Enters, EntersNothing, longer}
+use Rattle.pass_book.specs.Pages.{Page, IsPage, IsPageOf, Learns, Enters, longer}
 use Rattle.pass_book.proofs.Prefixes.{prefix_self, prefix_more, prefix_trans, prefix_longer}
 use Rattle.pass_book.proofs.Sublists.{entries_of-append, entries_of-own, entries_of-other, rest_of_others, entries_of-between, entries_of-alone, of_callers-rest}
 use Rattle.std.proofs.lemmas.List.{append-nil}
@@ -71,7 +71,7 @@ module _ {Call Reply : Type 0} where
       )
 
   -- what was seen between two pages of a caller that made no entry is of others
-  between_of_others : (c : ℕ) (old new : Page Call Reply) → IsPage c old → IsPage c new → new.mine ≡ old.mine → (p : IsPrefix old.seen new.seen) → IsOfOthers c p.0
+  pub between_of_others : (c : ℕ) (old new : Page Call Reply) → IsPage c old → IsPage c new → new.mine ≡ old.mine → (p : IsPrefix old.seen new.seen) → IsOfOthers c p.0
   between_of_others c old new own own' mine p = rest_of_others c old.seen new.seen (sym own' ∙ (mine ∙ own)) p
 
 module _ {Call Reply State : Type 0} (opens : State → Type 0) (step : State → Call → Reply → State → Type 0) where
@@ -88,37 +88,6 @@ module _ {Call Reply State : Type 0} (opens : State → Type 0) (step : State �
         own = own_list c h e page.mine of.whole refl;
         legal = legal;
       }
-
-  -- to its caller a look is a call without an entry
-  pub enters_nothing : (start : State) (c : ℕ) (h : List (Entry Call Reply)) (page : Page Call Reply) → IsPageOf c h page → IsLegal opens step start h → EntersNothing opens step start c page (page_at h page)
-  enters_nothing start c h page of legal = record { mine = refl; seen = of.begins; own = of.whole; legal = legal }
-
-  -- a page whose caller made no entry, and then the entry
-  pub enters_from : (start : State) (c : ℕ) (old mid new : Page Call Reply) (call : Call) (reply : Reply) → IsPage c old → mid.mine ≡ old.mine → IsPrefix old.seen mid.seen → IsPage c mid
-      → Enters opens step start c mid new call reply → Enters opens step start c old new call reply
-  enters_from start c old mid new call reply own mine seen own' then =
-      let e : Entry Call Reply = record { caller = c; call = call; reply = reply } in record {
-        before = seen.0 ++ then.before;
-        seen = then.seen ∙ ap (λ w. w ++ e ∷ []) (ap (λ w. w ++ then.before) (sym seen.1) ∙ append_assoc old.seen seen.0 then.before);
-        others = entries_of-append c seen.0 then.before ∙ (ap (λ w. w ++ entries_of c then.before) (between_of_others c old mid own own' mine seen) ∙ then.others);
-        mine = then.mine ∙ ap (λ w. w ++ e ∷ []) mine;
-        own = then.own;
-        legal = then.legal;
-      }
-
-  -- a look, and then the entry
-  pub enters_after : (start : State) (c : ℕ) (old mid new : Page Call Reply) (call : Call) (reply : Reply) → IsPage c old
-      → EntersNothing opens step start c old mid → Enters opens step start c mid new call reply → Enters opens step start c old new call reply
-  enters_after start c old mid new call reply own first then = enters_from start c old mid new call reply own first.mine first.seen first.own then
-
-  -- one look, and then another
-  pub nothing_after : (start : State) (c : ℕ) (old mid new : Page Call Reply) → EntersNothing opens step start c old mid → EntersNothing opens step start c mid new → EntersNothing opens step start c old new
-  nothing_after start c old mid new first then = record {
-    mine = then.mine ∙ first.mine;
-    seen = prefix_trans old.seen mid.seen new.seen first.seen then.seen;
-    own = then.own;
-    legal = then.legal;
-  }
 
 module _ {Call Reply : Type 0} where
   -- one caller alone has always seen the whole history

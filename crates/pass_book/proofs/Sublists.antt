@@ -12,7 +12,7 @@ nothing_added : {A : Type 0} (xs ys : List A) → length (xs ++ ys) ≡ length x
 nothing_added xs [] e = refl
 nothing_added xs (y ∷ ys) e = absurd (omega (arith, length-append xs (y ∷ ys)))
 
-front_empty : {A : Type 0} (xs ys : List A) → xs ++ ys ≡ [] → xs ≡ []
+pub front_empty : {A : Type 0} (xs ys : List A) → xs ++ ys ≡ [] → xs ≡ []
 front_empty [] ys e = refl
 front_empty (x ∷ xs) ys e = absurd cc
 

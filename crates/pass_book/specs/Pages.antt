@@ -76,10 +76,12 @@ module _ {Call Reply State : Type 0} (opens : State → Type 0) (step : State �
     pub own : IsPage caller new
     pub legal : IsLegal opens step start new.seen
 
-  -- a call without an entry: the caller's list is as it was, and what it had seen begins what it has seen, a legal history
+  -- A call without an entry: the caller's list is as it was, and what it had seen begins what it has seen, a legal history, of which the rest is
+  -- others' entries
   pub record EntersNothing (start : State) (caller : ℕ) (old new : Page Call Reply) : Type 0 where
     pub mine : new.mine ≡ old.mine
     pub seen : IsPrefix old.seen new.seen
+    pub others : IsOfOthers caller seen.0
     pub own : IsPage caller new
     pub legal : IsLegal opens step start new.seen
 

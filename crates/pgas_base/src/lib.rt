@@ -11,6 +11,8 @@ mod spots;
 mod starts;
 
 pub use pointers::Ptr;
-pub use shapes::{Shape, ShapeFault};
+pub use shapes::{
+    LEAST_WIDTH, MOST_LOCALES, MOST_OBJECTS, MOST_TOKENS, MOST_WIDTH, MOST_WORDS, Shape, ShapeFault,
+};
 pub use spots::Spot;
 pub use starts::Start;

@@ -3,17 +3,23 @@ ghost use Rattle.pgas_base.specs.Shapes.{LocalesInRange, TokensInRange, ObjectsI
 
 use thiserror::Error;
 
-const MOST_LOCALES: u8 = 16;
+/// The most locales of a shape.
+pub const MOST_LOCALES: u8 = 16;
 
-const MOST_TOKENS: u32 = 1024;
+/// The most tokens per locale.
+pub const MOST_TOKENS: u32 = 1024;
 
-const MOST_OBJECTS: u32 = 0x10_0000;
+/// The most objects per locale.
+pub const MOST_OBJECTS: u32 = 0x10_0000;
 
-const LEAST_WIDTH: u32 = 2;
+/// The least words in the row of an object.
+pub const LEAST_WIDTH: u32 = 2;
 
-const MOST_WIDTH: u32 = 4096;
+/// The most words in the row of an object.
+pub const MOST_WIDTH: u32 = 4096;
 
-const MOST_WORDS: u64 = 0x200_0000;
+/// The most words of all objects, each with two beside its row.
+pub const MOST_WORDS: u64 = 0x200_0000;
 
 /// How much there is: the locales, of which each has so many tokens and so many objects, and the
 /// words in the row of an object. Any numbers may stand here; `check` says whether they will do.

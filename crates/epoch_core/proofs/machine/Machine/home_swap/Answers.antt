@@ -1,11 +1,10 @@
-use Rattle.std.proofs.Common.{◌≡◌, ◌<◌, ◌==◌, ℕ, List, [], ◌∷◌, Some, refl, ap, sym, ◌∙◌, subst, inl}
+use Rattle.std.proofs.Common.{◌≡◌, ◌<◌, ◌==◌, ℕ, List, [], ◌∷◌, Some, refl, ap, sym, ◌∙◌, subst}
 use Rattle.std.proofs.lemmas.Result.{err_from_is_err_and}
 use Rattle.std.specs.Vec.{with_item}
 use Rattle.pgas_base.specs.Pointers.{word_of}
 use Rattle.pgas_base.specs.declared.shapes.Shape.{Shape}
 use Rattle.epoch_laws.specs.declared.steps.Seen.TheVariants.{Word}
-use Rattle.epoch_laws.specs.Chains.{Led, Breaks, IsLed, broken_at, led_in, led_over}
-use Rattle.epoch_laws.specs.Needs.{FirstUnmet}
+use Rattle.epoch_laws.specs.Chains.{Led, IsLed, led_in, led_over}
 use Rattle.epoch_laws.specs.Places.{Place, pending, place_of, with_number, without_all}
 use Rattle.epoch_laws.specs.Seats.{Seat}
 use Rattle.epoch_laws.specs.States.{IsPlace, State}
@@ -15,7 +14,7 @@ use Rattle.epoch_core.specs.ChainNeeds.{home_needs}
 use Rattle.epoch_core.specs.Ends.{hand_but, path}
 use Rattle.epoch_core.specs.Shown.{IsShowing}
 use Rattle.epoch_core.specs.Seated.{seat_with}
-use Rattle.epoch_core.proofs.NeedLists.{met_both, unmet_before, unmet_behind}
+use Rattle.epoch_core.proofs.NeedLists.{met_both, unmet_before, unmet_behind, broken}
 use Rattle.epoch_core.proofs.SeatStores.{seat_changed, seat_twice}
 use Rattle.epoch_core.proofs.Decided.{is_true}
 use Rattle.epoch_core.proofs.machine.Machine.home_swap.Goals as goal
@@ -28,10 +27,6 @@ unfolding home_swap
 returns-in_err-home_swap_needs c s sh =
     let p = err_from_is_err_and c.from_residual.result c.from_residual.ensures.1 in
     rw (p.1, p.2) (unmet_before (home_needs s c.args.seat c.args.top c.args.tail) (is_led (way_of s c.args.seat (place_of c.args.top) (place_of c.args.tail)) ∷ []) _ _ (c.in_err-home_swap_needs.ensures.tells s sh), sh)
-
-broken : (way : Led) (need word : ℕ) → way ≡ Breaks word → 7 ≡ need → FirstUnmet (is_led way ∷ []) need word
-unfolding broken_at
-broken way need word is number = inl ((λ led. subst IsLed is led), number, ap broken_at is)
 
 pub returns-in_err-let_go : goal.returns-in_err-let_go
 unfolding home_swap

@@ -1,17 +1,16 @@
-use Rattle.std.proofs.Common.{◌≡◌, ◌<◌, ◌≤◌, ◌+◌, ◌==◌, ℕ, true, false, List, [], ◌∷◌, refl, ap, sym, ◌∙◌, subst, arith, inl}
+use Rattle.std.proofs.Common.{◌≡◌, ◌<◌, ◌≤◌, ◌+◌, ◌==◌, ℕ, true, false, List, [], ◌∷◌, refl, ap, sym, ◌∙◌, subst, arith}
 use Rattle.std.proofs.lemmas.Result.{err_from_is_err_and}
 use Rattle.pgas_base.specs.declared.shapes.Shape.{Shape}
 use Rattle.pool_core.specs.declared.free_words.FreeWord.{FreeWord}
 use Rattle.epoch_laws.specs.declared.steps.Seen.TheVariants.{Lost}
-use Rattle.epoch_laws.specs.Chains.{Led, Breaks, IsLed, broken_at, led_in, led_over}
-use Rattle.epoch_laws.specs.Needs.{FirstUnmet}
+use Rattle.epoch_laws.specs.Chains.{IsLed, led_in, led_over}
 use Rattle.epoch_laws.specs.Places.{Place, index_in, place_of, with_number}
 use Rattle.epoch_laws.specs.Seats.{Seat}
 use Rattle.epoch_laws.specs.StackSteps.{free_head_word_of, is_led, same_head, stack_put}
 use Rattle.epoch_core.specs.ChainNeeds.{put_needs}
 use Rattle.epoch_core.specs.Ends.{hand_but, path}
 use Rattle.epoch_core.specs.Shown.{IsShowing}
-use Rattle.epoch_core.proofs.NeedLists.{met_both, unmet_before, unmet_behind}
+use Rattle.epoch_core.proofs.NeedLists.{met_both, unmet_before, unmet_behind, broken}
 use Rattle.epoch_core.proofs.SeatStores.{seat_read}
 use Rattle.epoch_core.proofs.Decided.{is_true}
 use Rattle.epoch_core.proofs.machine.Machine.stack_put.Goals as goal
@@ -21,11 +20,6 @@ unfolding stack_put
 returns-in_err-stack_put_needs c s sh =
     let p = err_from_is_err_and c.from_residual.result c.from_residual.ensures.1 in
     rw (p.1, p.2) (unmet_before (put_needs s c.args.seat c.args.top c.args.tail) (is_led (led_in s.words ((s.seat c.args.seat).hand) (λ word. index_in word == (s.seat c.args.seat).stack.head.index) (place_of c.args.top) (place_of c.args.tail)) ∷ []) _ _ (c.in_err-stack_put_needs.ensures.tells s sh), sh)
-
--- the word that breaks the way is told
-broken : (way : Led) (need word : ℕ) → way ≡ Breaks word → 7 ≡ need → FirstUnmet (is_led way ∷ []) need word
-unfolding broken_at
-broken way need word is number = inl ((λ led. subst IsLed is led), number, ap broken_at is)
 
 pub returns-in_err-count : goal.returns-in_err-count
 unfolding stack_put
