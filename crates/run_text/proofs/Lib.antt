@@ -1,0 +1,4 @@
+pub mod Readings
+pub mod CheckedRuns
+mod WrittenSteps
+mod WrittenRuns

@@ -1,0 +1,16 @@
+pub use Rattle.shared_io.specs.Counts
+pub use Rattle.line_text.specs.Lines
+pub use Rattle.line_text.specs.Readings
+pub use Rattle.line_text.specs.States
+pub use Rattle.line_text.specs.Texts
+pub use Rattle.line_text.specs.Words
+pub mod Drawn
+pub mod CheckText
+pub mod Checks
+pub mod Forms
+pub mod Listing
+pub mod Reading
+pub mod RunText
+pub mod Runs
+pub mod Sound
+pub mod Written
