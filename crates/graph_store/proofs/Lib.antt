@@ -1,1 +1,9 @@
+pub mod Counting
+pub mod Cuts
+pub mod Filled
+pub mod FilledRows
+pub mod Joined
+pub mod Leaving
 pub mod PairLemmas
+pub mod RowsAlong
+pub mod Starts

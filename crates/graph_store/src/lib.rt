@@ -1,8 +1,15 @@
-//! The graph of an edge list: its pairs of vertices.
+//! The graph of an edge list: for each vertex the vertices that an edge leads to from it.
 #![tactic(auto)]
 
+mod bands;
+mod counted;
+mod graph;
 mod pairs;
+mod rows;
+#[cfg(test)]
+mod tests;
 mod vertices;
 
-pub use pairs::{Pair, make_pairs};
-pub use vertices::count_vertices;
+pub use counted::counted_rows;
+pub use graph::{Graph, build};
+pub use rows::Rows;

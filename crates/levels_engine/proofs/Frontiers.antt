@@ -4,29 +4,12 @@ use Rattle.std.proofs.lemmas.Bool.{cases_Bool, cases_lt, eqb-false, eqb-true}
 use Rattle.std.proofs.lemmas.List.{get_or_default}
 use Rattle.std.proofs.lemmas.List.Elements.{All-contains}
 use Rattle.std.proofs.lemmas.List.Sorted.{length_permutation}
-use Rattle.graph_store.specs.declared.pairs.Pair.{Pair}
-use Rattle.graph_store.specs.Pairs.{HasPair}
 use Rattle.levels_engine.specs.Levels.{HasNoLevel, IsLevel, IsLevelNumber}
-use Rattle.levels_engine.specs.Marks.{HasTarget, IsMarked, IsNextTo, Marking, MarksMore, Reorders, level_of, marked}
+use Rattle.levels_engine.specs.Marks.{IsMarked, IsNextTo, Marking, MarksMore, Reorders, level_of, marked}
 use Rattle.levels_engine.specs.Walks.{IsWalk}
 use Rattle.levels_engine.specs.declared.plain_levels.TheConstants.{NOT_REACHED}
 use Rattle.levels_engine.proofs.Marking.{IsMarked-more, IsPermutation-reordered, behind-reordered, slice_index-reordered, level_of-replicate, MarksMore-trans, MarksMore-weaker}
 use Rattle.levels_engine.proofs.Walks.{IsWalk-keeps, IsWalk-none, IsWalk-push}
-
--- A row is the part of the pairs that leave the vertex.
-module _ (pairs row : List Pair) (vertex : ℕ) (is : (pair : Pair) → Contains row pair ↔ (Contains pairs pair × (pair.from ≡ vertex))) where
-  -- its targets are next to the vertex
-  pub HasPair-row : (to : ℕ) → HasTarget row to → HasPair pairs vertex to
-  HasPair-row to h =
-      let pair : Pair = h.1 in
-      let found = (is pair).0 (h.0, h.2, h.3) in
-      subst (λ (v : ℕ). HasPair pairs v to) found.1 (subst (λ (v : ℕ). HasPair pairs pair.from v) h.4 found.0)
-
-  -- and what is next to the vertex is marked once they are
-  pub IsMarked-row : (levels : List ℕ) (to : ℕ) → All (λ (pair : Pair). IsMarked levels pair.to) row → HasPair pairs vertex to → IsMarked levels to
-  IsMarked-row levels to all pair =
-      let there : Pair = record { from = vertex; to = to } in
-      All-contains (λ (pair : Pair). IsMarked levels pair.to) row there all ((is there).1 (pair, refl))
 
 -- The search has come to a level, whose vertices stand in the queue from a place on.
 pub record IsSearched (Leads : ℕ → ℕ → Type 0) (sources : List ℕ) (level begin : ℕ) (marking : Marking) : Type 0 where
@@ -39,19 +22,19 @@ pub record IsSearched (Leads : ℕ → ℕ → Type 0) (sources : List ℕ) (lev
   pub depth : level ≤ begin
   pub within : begin ≤ length marking.queue
 
--- a frontier so far as it is expanded, and one more of its vertices
-pub frontier_more : (pairs row : List Pair) (begin place end level vertex : ℕ) (old mid new : Marking) → level ≢ NOT_REACHED → begin ≤ place → place < end → end ≤ length old.queue → vertex ≡ slice_index mid.queue place → ((pair : Pair) → Contains row pair ↔ (Contains pairs pair × (pair.from ≡ vertex))) → MarksMore level (IsNextTo (HasPair pairs) old.queue begin end) old mid → ((to : ℕ) → IsNextTo (HasPair pairs) old.queue begin place to → IsMarked mid.levels to) → MarksMore level (HasTarget row) mid new → All (λ (pair : Pair). IsMarked new.levels pair.to) row → MarksMore level (IsNextTo (HasPair pairs) old.queue begin end) old new × ((to : ℕ) → IsNextTo (HasPair pairs) old.queue begin (place + 1) to → IsMarked new.levels to)
-frontier_more pairs row begin place end level vertex old mid new high from below within read is more all step targets =
+-- A frontier so far as it is expanded, and one more of its vertices, whose row has what it leads to.
+pub frontier_more : (Leads : ℕ → ℕ → Type 0) (row : List ℕ) (begin place end level vertex : ℕ) (old mid new : Marking) → level ≢ NOT_REACHED → begin ≤ place → place < end → end ≤ length old.queue → vertex ≡ slice_index mid.queue place → ((to : ℕ) → Contains row to ↔ Leads vertex to) → MarksMore level (IsNextTo Leads old.queue begin end) old mid → ((to : ℕ) → IsNextTo Leads old.queue begin place to → IsMarked mid.levels to) → MarksMore level (Contains row) mid new → All (IsMarked new.levels) row → MarksMore level (IsNextTo Leads old.queue begin end) old new × ((to : ℕ) → IsNextTo Leads old.queue begin (place + 1) to → IsMarked new.levels to)
+frontier_more Leads row begin place end level vertex old mid new high from below within read is more all step targets =
     let at : vertex ≡ slice_index old.queue place = read ∙ more.front place (omega arith) in
-    let IsNear : ℕ → Type 0 = IsNextTo (HasPair pairs) old.queue begin end in
-    let near : (to : ℕ) → HasTarget row to → IsNear to = λ to h. (place, from, below, subst (λ (v : ℕ). HasPair pairs v to) at (HasPair-row pairs row vertex is to h)) in (
-      MarksMore-trans level IsNear old mid new high more (MarksMore-weaker level (HasTarget row) IsNear mid new near step),
+    let IsNear : ℕ → Type 0 = IsNextTo Leads old.queue begin end in
+    let near : (to : ℕ) → Contains row to → IsNear to = λ to h. (place, from, below, subst (λ (v : ℕ). Leads v to) at ((is to).0 h)) in (
+      MarksMore-trans level IsNear old mid new high more (MarksMore-weaker level (Contains row) IsNear mid new near step),
       λ to next. elim (cases_lt next.0 place) [
-        | inl earlier ↦ IsMarked-more level (HasTarget row) mid new step to (all to (next.0, next.1, earlier, next.3))
+        | inl earlier ↦ IsMarked-more level (Contains row) mid new step to (all to (next.0, next.1, earlier, next.3))
         | inr later ↦
             let here : next.0 ≡ place = omega (arith, next.2) in
-            let edge : HasPair pairs vertex to = subst (λ (v : ℕ). HasPair pairs v to) (ap (slice_index old.queue) here ∙ sym at) next.3 in
-            IsMarked-row pairs row vertex is new.levels to targets edge
+            let edge : Leads vertex to = subst (λ (v : ℕ). Leads v to) (ap (slice_index old.queue) here ∙ sym at) next.3 in
+            All-contains (IsMarked new.levels) row to targets ((is to).1 edge)
       ],
     )
 

@@ -1,5 +1,4 @@
 pub mod Drawn
 pub mod Frontiers
 pub mod Marking
-pub mod Starts
 pub mod Walks

@@ -3,5 +3,4 @@ pub use Rattle.graph_store.specs.Vertices
 pub mod Draws
 pub mod Levels
 pub mod Marks
-pub mod Rows
 pub mod Walks

@@ -1,6 +1,5 @@
-use Rattle.std.specs.Prelude.{◌≡◌, ◌≢◌, ℕ, ◌+◌, ◌<◌, ◌≤◌, ◌==◌, ◌⊎◌, List, [], ◌∷◌, ◌++◌, All, Any, Contains, if◌then◌else◌, count_by, drop, length, slice_index, slice_index_or, slice_set, take}
+use Rattle.std.specs.Prelude.{◌≡◌, ◌≢◌, ℕ, ◌+◌, ◌<◌, ◌≤◌, ◌==◌, ◌⊎◌, List, [], ◌∷◌, ◌++◌, All, Contains, if◌then◌else◌, count_by, drop, length, slice_index, slice_index_or, slice_set, take}
 use Rattle.std.specs.List.Sorted.{IsPermutation}
-use Rattle.graph_store.specs.declared.pairs.Pair.{Pair}
 use Rattle.levels_engine.specs.declared.plain_levels.TheConstants.{NOT_REACHED}
 
 -- the levels of vertices, and the vertices that have one, in the order in which they got it
@@ -34,10 +33,6 @@ pub record Reorders (begin : ℕ) (old new : Marking) : Type 0 where
   pub levels : new.levels ≡ old.levels
   pub front : take begin new.queue ≡ take begin old.queue
   pub rest : IsPermutation (drop begin old.queue) (drop begin new.queue)
-
--- one of the pairs leads to the vertex
-abbrev pub HasTarget : List Pair → ℕ → Type 0
-HasTarget pairs vertex = Any (λ pair. pair.to ≡ vertex) pairs
 
 -- an edge leads to the vertex from this part of the queue
 abbrev pub IsNextTo : (ℕ → ℕ → Type 0) → List ℕ → ℕ → ℕ → ℕ → Type 0

@@ -7,7 +7,6 @@
 mod made_edges;
 mod marks;
 mod plain_levels;
-mod rows;
 mod search;
 
 pub use made_edges::{EdgeDraws, make_edges};

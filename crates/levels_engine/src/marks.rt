@@ -1,9 +1,8 @@
 ghost use Rattle.std.specs.Prelude.{◌≡◌, ◌≢◌, ℕ, ◌<◌, ◌≤◌, [], All, Contains, IfOk, OnOk, drop, length, replicate, slice_index, take};
 ghost use Rattle.std.specs.List.Sorted.{IsPermutation};
-ghost use Rattle.levels_engine.specs.Marks.{HasTarget, IsMarked, MarksMore, Reorders, marked};
+ghost use Rattle.levels_engine.specs.Marks.{IsMarked, MarksMore, Reorders, marked};
 
 use crate::plain_levels::NOT_REACHED;
-use graph_store::Pair;
 use std::alloc::{AllocError, Global};
 use std::marker::Model;
 
@@ -82,19 +81,6 @@ impl Marks {
         ensures { Reorders begin self.old self.new }
     {
         sort_tail(&mut self.queue, begin);
-    }
-
-    /// Gives the level to each target that has none.
-    pub fn mark_row(&mut self, row: &[Pair], level: u32) -> Result<(), AllocError>
-        requires targets { All (λ pair. pair.to < length self.old.levels) row.now }
-        requires level { level ≢ NOT_REACHED }
-        ensures more { OnOk result (MarksMore level (HasTarget row.now) self.old self.new) }
-        ensures all { OnOk result (All (λ pair. IsMarked self.new.levels pair.to) row.now) }
-    {
-        for pair in row {
-            self.mark(pair.to, level)?;
-        }
-        Ok(())
     }
 
     /// Gives the level to each of the vertices that has none.
