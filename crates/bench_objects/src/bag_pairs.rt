@@ -1,6 +1,7 @@
 //! Pairs of calls on a bag: an add to the thread's own locale, and a removal.
 ghost use Rattle.std.specs.Prelude.{◌≡◌};
-ghost use Rattle.shared_bag.specs.Passes.{pass_opening, opening_of};
+ghost use Rattle.shared_bag.specs.Passes.{pass_opening};
+ghost use Rattle.shared_bag.specs.Bags.{opening_of};
 
 use crate::orders::{Form, Tally, Timed};
 use anyhow::Result;

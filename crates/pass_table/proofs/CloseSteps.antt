@@ -1,7 +1,8 @@
 -- One seat takes in the passes of an object, one after another, and the last state shows the whole book.
-use Rattle.std.proofs.Common.{◌≡◌, ◌≢◌, ℕ, zero, suc, List, [], ◌∷◌, ◌++◌, set, get_or, refl, ap, sym, ◌∙◌, subst, inl, inr, ⊎_elim, append_assoc, Some, slice_get, Bool}
-use Rattle.std.specs.List.{All}
-use Rattle.std.proofs.lemmas.List.Elements.{All-nil}
+use Rattle.std.proofs.Common.{◌≡◌, ◌≢◌, ℕ, zero, suc, List, [], ◌∷◌, ◌++◌, set, get_or, map, length, ◌<◌, arith, refl, ap, sym, ◌∙◌, subst, inl, inr, ⊎_elim, append_assoc, Some, slice_get, Bool}
+use Rattle.std.specs.List.{All, Contains}
+use Rattle.std.proofs.lemmas.List.{length-map}
+use Rattle.std.proofs.lemmas.List.Elements.{All-nil, All-append}
 use mathlib.Core.Option.{some}
 use lib.ListN.{get_elem?}
 use Rattle.atomic_table.specs.Table.{State as Table, Joins, Final, Seen}
@@ -14,12 +15,11 @@ use Rattle.pass_table.specs.declared.views.View.{View}
 use Rattle.pass_table.specs.declared.passes.Pass.{Pass}
 use Rattle.pass_table.specs.declared.tables.PassTable.{PassTable}
 use Rattle.pass_table.specs.Terms.{Terms, put}
-use Rattle.pass_table.specs.Views.{merging, spent}
+use Rattle.pass_table.specs.Views.{merging, spent, numbers_of}
 use Rattle.pass_table.specs.Rule.{MergedFits, FitsAs, KnowsPlan, TableInvariant}
 use Rattle.pass_table.specs.Passes.{plan_of, pass_view, caller_of, page}
-use Rattle.pass_table.specs.Openings.{AreOfAllCallers}
-use Rattle.pass_table.specs.Closings.{Gathered, ClosesWith}
-use Rattle.pass_table.proofs.Lists.{put_here, put_else, all_cons, all_mid, all_at, contained}
+use Rattle.pass_table.specs.Closings.{AreOfAllCallers, Gathered, ClosesWith}
+use Rattle.pass_table.proofs.Lists.{put_here, put_else, all_cons, all_one, all_mid, all_at, all_below, pairs_cons, contained}
 use Rattle.pass_table.proofs.Seating.{reseated, caller_fits, caller_knows}
 
 module _ {Call Reply State Part : Type 0} (rests : Part → Bool) (book : Book Call Reply State) (parts : ℕ → Part) (seat : ℕ → ℕ) (made c id other : ℕ) where
@@ -32,6 +32,15 @@ module _ {Call Reply State Part : Type 0} (rests : Part → Bool) (book : Book C
       let one = all j d within in
       record { below = one.below; seated = seat_kept k (get_or l j d).caller mine away one.seated; page = one.page; part = one.part; rested = one.rested }
 
+  -- what holds of each caller whose pass was taken in, and of the view's own, holds of all of a view's callers
+  numbers_all : {Plan Name : Type 0} (k : ℕ) (v : View Call Reply Plan Part Name) (P : ℕ → Type 0) → ((m : Merged Call Reply Part) → MergedFits rests book parts seat made k m → P m.caller) → P v.number
+      → All (MergedFits rests book parts seat made k) v.merged → All P (numbers_of v)
+  numbers_all k v P gives own merged = All-append P (map (λ (m : Merged Call Reply Part). m.caller) v.merged) (v.number ∷ []) (each v.merged merged) (all_one P v.number own)
+    where
+      each : (l : List (Merged Call Reply Part)) → All (MergedFits rests book parts seat made k) l → All P (map (λ (m : Merged Call Reply Part). m.caller) l)
+      each [] all = All-nil P
+      each (m ∷ l) all = all_cons P m.caller (map (λ (x : Merged Call Reply Part). x.caller) l) (gives m (all 0 m (omega arith))) (each l (λ j d within. all (suc j) d (omega arith)))
+
   seat_fits : {Plan Name : Type 0} (k : ℕ) (u : View Call Reply Plan Part Name) (role : Role) → seat c ≡ other → k ≢ other → FitsAs rests book parts seat made k u role → FitsAs rests book parts (put seat c id) made k u role
   seat_fits k u Opener mine away fits = fits
   seat_fits k u Caller mine away fits = record {
@@ -42,6 +51,7 @@ module _ {Call Reply State Part : Type 0} (rests : Part → Bool) (book : Book C
     rested = fits.rested;
     pending = fits.pending;
     merged = merged_kept k u.merged mine away fits.merged;
+    distinct = fits.distinct;
   }
   seat_fits k u Note mine away fits = fits
   seat_fits k u Spent mine away fits = tt
@@ -78,6 +88,8 @@ module _ {Slot Call Reply State Plan Part Name : Type 0} (T : Terms Slot Call Re
         pending = fits.pending;
         merged = all_cons (MergedFits T.rests is.book is.parts seat' is.made id) m v.merged taken
             (merged_kept T.rests is.book is.parts is.seat is.made c id other id v.merged fits'.seated away fits.merged);
+        distinct = pairs_cons (λ x y. x ≢ y) c (numbers_of v)
+            (λ k d within same. apart (sym fits'.seated ∙ (ap is.seat same ∙ numbers_all T.rests is.book is.parts is.seat is.made c id other id v (λ n. is.seat n ≡ id) (λ m one. one.seated) fits.seated fits.merged k d within))) fits.distinct;
       } in
       reseated T opens step plan s is seat' (set views' other (spent T))
       (λ k u at.
@@ -97,9 +109,10 @@ module _ {Slot Call Reply State Plan Part Name : Type 0} (T : Terms Slot Call Re
       (at_set views' other k (spent T) u at))
 
 module _ {Slot Call Reply Plan Part Name : Type 0} where
-  -- the view has the pages of the passes that are no longer left
+  -- the view has the pages of the passes that are no longer left, and their numbers
   abbrev pub GathersRest : View Call Reply Plan Part Name → List (Pass Slot Call Reply Plan Part Name) → List (Pass Slot Call Reply Plan Part Name) → Type 0
   GathersRest v all left = (rest : List (Pass Slot Call Reply Plan Part Name)) × (all ≡ left ++ rest) × All (λ p. Gathered v p) rest
+      × (map (λ (p : Pass Slot Call Reply Plan Part Name). caller_of p) rest ≡ numbers_of v)
 
   still : (v w : View Call Reply Plan Part Name) (p : Pass Slot Call Reply Plan Part Name) → Gathered v p → Gathered (merging v w) p
   still v w p has = ⊎_elim (λ t. inl t) (λ t. inr (suc t.0, t.1, t.2, t.3, t.4, t.5, t.6)) has
@@ -109,18 +122,26 @@ module _ {Slot Call Reply Plan Part Name : Type 0} where
 
   -- the first pass
   pub gathers_first : (all left : List (Pass Slot Call Reply Plan Part Name)) (p : Pass Slot Call Reply Plan Part Name) → all ≡ left ++ p ∷ [] → GathersRest (pass_view p) all left
-  gathers_first all left p is = (p ∷ [], is, all_cons (λ q. Gathered (pass_view p) q) p [] (inl (refl, refl, refl, refl)) (All-nil _))
+  gathers_first all left p is = (
+    p ∷ [],
+    is,
+    all_cons (λ q. Gathered (pass_view p) q) p [] (inl (refl, refl, refl, refl)) (All-nil _),
+    ap (λ (l : List (Merged Call Reply Part)). map (λ (m : Merged Call Reply Part). m.caller) l ++ caller_of p ∷ []) (sym p.seat.single),
+  )
 
   -- one more
   pub gathers_more : (v w : View Call Reply Plan Part Name) (all left left' : List (Pass Slot Call Reply Plan Part Name)) (p : Pass Slot Call Reply Plan Part Name) → w ≡ merging v (pass_view p) → left ≡ left' ++ p ∷ [] → GathersRest v all left → GathersRest w all left'
   gathers_more v w all left left' p is one rest =
       let whole : all ≡ left' ++ (p ∷ rest.0) = rest.1 ∙ (ap (λ l. l ++ rest.0) one ∙ append_assoc left' (p ∷ []) rest.0) in
       subst (λ u. GathersRest u all left') (sym is)
-      (p ∷ rest.0, whole, all_cons (λ q. Gathered (merging v (pass_view p)) q) p rest.0 (taken v p) (λ k d below. still v (pass_view p) (get_or rest.0 k d) (rest.2 k d below)))
+      (p ∷ rest.0, whole, all_cons (λ q. Gathered (merging v (pass_view p)) q) p rest.0 (taken v p) (λ k d below. still v (pass_view p) (get_or rest.0 k d) (rest.2 k d below)), ap (λ l. caller_of p ∷ l) rest.3)
 
   -- all
   pub gathers_all : (v : View Call Reply Plan Part Name) (all left : List (Pass Slot Call Reply Plan Part Name)) → left ≡ [] → GathersRest v all left → All (λ p. Gathered v p) all
   gathers_all v all left none rest = subst (All (λ p. Gathered v p)) (sym (rest.1 ∙ ap (λ l. l ++ rest.0) none)) rest.2
+
+  pub gathers_numbers : (v : View Call Reply Plan Part Name) (all left : List (Pass Slot Call Reply Plan Part Name)) → left ≡ [] → GathersRest v all left → map (λ (p : Pass Slot Call Reply Plan Part Name). caller_of p) all ≡ numbers_of v
+  gathers_numbers v all left none rest = ap (map (λ (p : Pass Slot Call Reply Plan Part Name). caller_of p)) (rest.1 ∙ ap (λ l. l ++ rest.0) none) ∙ rest.3
 
   -- what holds of all passes holds of the one that is taken next
   pub next_of : (P : Pass Slot Call Reply Plan Part Name → Type 0) (v : View Call Reply Plan Part Name) (all left left' : List (Pass Slot Call Reply Plan Part Name)) (p : Pass Slot Call Reply Plan Part Name) → left ≡ left' ++ p ∷ [] → GathersRest v all left → All P all → P p
@@ -142,18 +163,31 @@ module _ {C O Slot Call Reply State Plan Part Name : Type 0} (T : Terms Slot Cal
         (ap (slice_get is.book.pages) (sym t.3) ∙ (one.page ∙ ap Some t.4), ap is.parts (sym t.3) ∙ (one.part ∙ t.5), sym t.6 ∙ (one.rested ∙ ap T.rests t.5)))
         has
 
+    -- as many passes as there are callers are those of all callers
+    every_caller : (passes : List (Pass Slot Call Reply Plan Part Name)) → map (λ (p : Pass Slot Call Reply Plan Part Name). caller_of p) passes ≡ numbers_of v → length passes ≡ T.callers (plan_of d) → AreOfAllCallers (T.callers (plan_of d)) passes
+    every_caller passes numbers count c below =
+        let fits = caller_fits T opens step (plan_of d) s is id v here role in
+        let within : (x : ℕ) → x < is.made → x < T.callers (plan_of d) = λ x less. (let most = is.seats.most in omega arith) in
+        let all : All (λ x. x < T.callers (plan_of d)) (numbers_of v) =
+        numbers_all T.rests is.book is.parts is.seat is.made 0 0 0 id v (λ x. x < T.callers (plan_of d)) (λ m one. within m.caller one.below) (within v.number fits.below) fits.merged in
+        let long : length (numbers_of v) ≡ T.callers (plan_of d) = ap length (sym numbers) ∙ (length-map passes (λ (p : Pass Slot Call Reply Plan Part Name). caller_of p) ∙ count) in
+        subst (λ l. Contains l c) (sym numbers) (all_below (numbers_of v) (T.callers (plan_of d)) c fits.distinct all long below)
+
   -- the last state shows the whole book
   pub closes : (d : PassTable C O Slot Plan Part Name Call Reply State) (passes : List (Pass Slot Call Reply Plan Part Name)) (words : List ℕ) (slots : List Slot) (id : ℕ) (v : View Call Reply Plan Part Name)
-      → Final (Seen (TableInvariant T opens step (plan_of d)) id v) words slots → v.role ≡ Caller → All (λ p. Gathered v p) passes → AreOfAllCallers T d passes → ClosesWith T opens step d passes words slots
-  closes d passes words slots id v last role gathered every =
+      → Final (Seen (TableInvariant T opens step (plan_of d)) id v) words slots → v.role ≡ Caller → All (λ p. Gathered v p) passes → map (λ (p : Pass Slot Call Reply Plan Part Name). caller_of p) passes ≡ numbers_of v → length passes ≡ T.callers (plan_of d)
+      → ClosesWith T opens step d passes words slots
+  closes d passes words slots id v last role gathered numbers count =
       let s : Table Slot (View Call Reply Plan Part Name) = last.0 in
       let is = last.1.0 in
-      let here = last.1.1 in record {
+      let here = last.1.1 in
+      let every = every_caller d s is id v here role passes numbers count in record {
         book = is.book;
         legal = is.history.legal;
         start = is.history.start;
         callers = is.history.pages;
         each = λ k p below. (page_in d s is id v here role (get_or passes k p) (gathered k p below)).0;
+        all = every;
         homes = s.homes;
         many = last.3;
         home = last.4;

@@ -10,6 +10,7 @@ use Rattle.pass_book.specs.declared.entries.Look.{Look}
 use Rattle.pass_book.specs.Histories.{IsLegal, IsOfCallers, IsOfOthers, entries_of}
 use Rattle.pass_book.specs.Pages.{Page, IsPage, Gains, Enters, EntersNothing}
 use Rattle.pass_book.proofs.Prefixes.{prefix_self, prefix_more, prefix_trans}
+use Rattle.pass_book.proofs.PageSteps.{between_of_others}
 use Rattle.pass_book.proofs.Sublists.{entries_of-append, entries_of-own, entries_of-alone}
 use Rattle.pass_table.specs.declared.views.View.{View}
 use Rattle.pass_table.specs.Terms.{Terms, Effect, SeesSo, MovesSo}
@@ -176,6 +177,7 @@ module _ {Slot Call Reply State Plan Part Name : Type 0} (T : Terms Slot Call Re
     nothing_of goes = record {
       mine = goes.mine ∙ append-nil v.mine;
       seen = goes_begins [] goes;
+      others = between_of_others v.number (page_of v) (page_of w) goes.before.own (gains_of [] goes).own (goes.mine ∙ append-nil v.mine) (goes_begins [] goes);
       own = (gains_of [] goes).own;
       legal = goes.sound.legal;
     }

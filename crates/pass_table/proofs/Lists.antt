@@ -1,8 +1,14 @@
 -- Functions and lists with one place changed.
-use Rattle.std.proofs.Common.{◌≡◌, ◌≢◌, ℕ, zero, suc, ◌<◌, List, [], ◌∷◌, ◌++◌, length, cond, ap, refl, sym, ◌∙◌, subst, ◌+◌, map, slice_get, Some, length-append, take, ◌-◌, eq-eqb, ne_eqb, ◌⊎◌, inl, inr, ⊎_elim, arith}
-use Rattle.std.specs.List.{All, Contains}
+use Rattle.std.proofs.Common.{◌≡◌, ◌≢◌, ℕ, zero, suc, ◌<◌, List, [], ◌∷◌, ◌++◌, length, cond, ap, refl, sym, ◌∙◌, subst, ◌+◌, map, slice_get, get_or, eqb, Bool, true, false, Some, length-append, take, ◌-◌, eq-eqb, ne_eqb, ◌⊎◌, inl, inr, ⊎_elim, arith}
+use Rattle.std.specs.List.{All, AllPairs, Contains, list_any}
 use Rattle.std.proofs.Math.Seq.{get_or-append_seam}
 use Rattle.std.proofs.lemmas.List.{get_or-map, length-map}
+use Rattle.std.proofs.lemmas.Bool.{eqb-true}
+use Rattle.std.proofs.lemmas.Bool.Decides.{Decides-eqb}
+use Rattle.std.proofs.lemmas.List.Folds.{list_any_at}
+use Rattle.std.proofs.lemmas.Map.Made.{IsDistinct-from_AllPairs}
+use Rattle.std.proofs.lemmas.Map.Steps.{length-le_from_distinct_below}
+use Rattle.std.proofs.lemmas.Map.Views.{Contains-from_any}
 use Rattle.std.proofs.lemmas.Option.{get_or_from_slice_get, slice_get_within}
 use mathlib.Core.Option.{some, some-ne-none, some-injective}
 use lib.ListN.{get_elem?}
@@ -27,6 +33,17 @@ module _ {A : Type 0} where
   all_cons P a l p all zero d below = p
   all_cons P a l p all (suc k) d below = all k d (omega arith)
 
+  -- what holds between one and each of a list, and within the list, holds within both
+  pub pairs_cons : (R : A → A → Type 0) (a : A) (l : List A) → All (λ x. R a x) l → AllPairs R l → AllPairs R (a ∷ l)
+  pairs_cons R a l all pairs zero zero d less within = absurd (omega (arith, less))
+  pairs_cons R a l all pairs zero (suc j) d less within = all j d (omega arith)
+  pairs_cons R a l all pairs (suc i) zero d less within = absurd (omega (arith, less))
+  pairs_cons R a l all pairs (suc i) (suc j) d less within = pairs i j d (omega arith) (omega arith)
+
+  pub pairs_one : (R : A → A → Type 0) (a : A) → AllPairs R (a ∷ [])
+  pairs_one R a i zero d less within = absurd (omega (arith, less))
+  pairs_one R a i (suc j) d less within = absurd (omega (arith, within))
+
   pub all_one : (P : A → Type 0) (a : A) → P a → All P (a ∷ [])
   all_one P a p zero d below = p
   all_one P a p (suc k) d below = absurd (omega arith)
@@ -47,13 +64,6 @@ module _ {A : Type 0} where
   there [] k below = absurd (omega arith)
   there (x ∷ xs) zero below = (x, refl)
   there (x ∷ xs) (suc k) below = there xs k (omega arith)
-
-  -- where each has its place's number, each number of a place is there
-  pub numbers_there : (P : ℕ → A → Type 0) (f : A → ℕ) (xs : List A) → ((k : ℕ) (a : A) → P k a → f a ≡ k) → AreInOrder P xs → (k : ℕ) → k < length xs → Contains (map f xs) k
-  numbers_there P f xs numbered each k within =
-      let here = there xs k within in
-      let long : k < length (map f xs) = omega (arith, length-map xs f) in
-      (k, long, get_or-map f xs k here.0 k within ∙ (ap f (get_or_from_slice_get xs k here.0 here.0 here.1) ∙ numbered k here.0 (each k here.0 here.1)))
 
   -- a list after a push
   pub count_after : (old new : List A) (a : A) (n : ℕ) → new ≡ old ++ a ∷ [] → length old ≡ n → length new ≡ n + 1
@@ -79,11 +89,21 @@ module _ {A : Type 0} where
   contained f P (x ∷ xs) c all (zero, below, is) = (x, all zero x (omega arith), is)
   contained f P (x ∷ xs) c all (suc k, below, is) = contained f P xs c (λ j d within. all (suc j) d (omega arith)) (k, omega arith, is)
 
-  -- a list in which something stands is not empty
-  pub some_contained : {B : Type 0} (f : A → B) (xs : List A) (b : B) → Contains (map f xs) b → 0 < length xs
-  some_contained f [] b has = absurd (omega (arith, has.1))
-  some_contained f (x ∷ xs) b has = omega arith
-
   -- what is left where nothing came out
   pub none_left : (xs ys : List A) (n : ℕ) → xs ≡ ys ++ [] → ys ≡ take (n - 1) xs → n ≡ 0 → xs ≡ []
   none_left xs ys n is rest none = is ∙ ap (λ (l : List A). l ++ []) (rest ∙ ap (λ m. take (m - 1) xs) none)
+
+-- So many numbers below this, of which no two are the same, are all of them.
+pub all_below : (xs : List ℕ) (n c : ℕ) → AllPairs (λ x y. x ≢ y) xs → All (λ x. x < n) xs → length xs ≡ n → c < n → Contains xs c
+all_below xs n c apart below count less = by (list_any (eqb c) xs) refl
+  where
+    below_in : (q : ℕ) → Contains (c ∷ xs) q → q < n
+    below_in q (zero, within, is) = omega (arith, is, less)
+    below_in q (suc k, within, is) = subst (λ x. x < n) is (below k q (omega arith))
+
+    by : (b : Bool) → list_any (eqb c) xs ≡ b → Contains xs c
+    by true is = Contains-from_any eqb-true c xs is
+    by false is =
+        let others : All (λ x. c ≢ x) xs = λ k d within same. cc (sym (list_any_at (eqb c) xs k d within (eq-eqb c (get_or xs k d) same)) ∙ is) in
+        let distinct = IsDistinct-from_AllPairs Decides-eqb (c ∷ xs) (pairs_cons (λ x y. x ≢ y) c xs others apart) in
+        absurd (omega (arith, count, length-le_from_distinct_below (c ∷ xs) n distinct (λ q has. below_in q (Contains-from_any eqb-true q (c ∷ xs) has))))

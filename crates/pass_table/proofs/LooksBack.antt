@@ -21,7 +21,8 @@ use Rattle.pass_table.specs.declared.tables.PassTable.{PassTable}
 use Rattle.pass_table.specs.Terms.{Terms, Effect}
 use Rattle.pass_table.specs.Steps.{Steps, SeesFirst}
 use Rattle.pass_table.specs.Passes.{page, pass_view, caller_of, pass_opening, opening_of, plan_of}
-use Rattle.pass_table.specs.Openings.{AreOfOpening, AreOfAllCallers}
+use Rattle.pass_table.specs.Openings.{AreOfOpening}
+use Rattle.pass_table.specs.Closings.{AreOfAllCallers}
 use Rattle.pass_table.specs.Looks.{HasLooked, HaveLooked}
 use Rattle.pass_table.proofs.Lists.{all_mid, contained}
 use Rattle.pass_table.proofs.Going.{goes_step, goes_begins}
@@ -38,13 +39,6 @@ all_along P Q xs ys many leads all k d below =
 -- what is read at a place is what stands there
 some_same : {A : Type 0} (xs : List A) (k : ℕ) (a : A) → slice_get xs k ≡ Some a → get_or xs k a ≡ a
 some_same xs k a at = get_or_from_slice_get xs k a a at
-
--- lists of the same numbers
-map_along : {A : Type 0} (f : A → ℕ) (xs ys : List A) → length ys ≡ length xs → ((k : ℕ) (p q : A) → slice_get xs k ≡ Some p → slice_get ys k ≡ Some q → f q ≡ f p) → map f ys ≡ map f xs
-map_along f [] [] many same = refl
-map_along f [] (y ∷ ys) many same = absurd (omega arith)
-map_along f (x ∷ xs) [] many same = absurd (omega arith)
-map_along f (x ∷ xs) (y ∷ ys) many same = ap₂ (λ n l. n ∷ l) (same 0 x y refl refl) (map_along f xs ys (omega arith) (λ k p q at at'. same (suc k) p q at at'))
 
 -- a list has a last element, or is empty
 snoc_view : {A : Type 0} (xs : List A) → (xs ≡ []) ⊎ ((front : List A) × (a : A) × (xs ≡ front ++ a ∷ []))
@@ -150,15 +144,12 @@ module _ {Slot Call Reply State Plan Part Name : Type 0} (T : Terms Slot Call Re
       subst (HaveLooked T plan most old) (sym back) (subst (λ l. HaveLooked T plan most l new) is looked)
 
   module _ {C O : Type 0} (d : PassTable C O Slot Plan Part Name Call Reply State) (most : ℕ) (old new : List (Pass Slot Call Reply Plan Part Name)) (looked : HaveLooked T plan most old new) where
-    -- after the looks the passes are still of the opening, and of all callers
+    -- after the looks the passes are still of the opening
     pub still_of_opening : AreOfOpening T d old → AreOfOpening T d new
     still_of_opening all = all_along (λ p. pass_opening p ≡ opening_of d) (λ q. pass_opening q ≡ opening_of d) old new looked.many (λ k p q at at' is. (looked.each k p q at at').same.0 ∙ is) all
 
-    pub still_of_all_callers : AreOfAllCallers T d old → AreOfAllCallers T d new
-    still_of_all_callers every c less = subst (λ l. Contains l c) (sym (map_along (λ p. caller_of p) old new looked.many (λ k p q at at'. (looked.each k p q at at').same.1))) (every c less)
-
     -- The last entry's caller has seen the whole history, and what it read of word 0 says so of it
-    pub last_look : (h : List (Entry Call Reply)) → IsOfCallers (T.callers (plan_of d)) h → All (λ q. IsPageOf (caller_of q) h (page q)) new → AreOfAllCallers T d old
+    pub last_look : (h : List (Entry Call Reply)) → IsOfCallers (T.callers (plan_of d)) h → All (λ q. IsPageOf (caller_of q) h (page q)) new → AreOfAllCallers (T.callers (plan_of d)) new
         → (h ≡ []) ⊎ ((word : ℕ) × T.shows plan h T.first_word word × (T.size word ≤ most))
     last_look h callers pages every =
         ⊎_elim inl
@@ -171,7 +162,7 @@ module _ {Slot Call Reply State Plan Part Name : Type 0} (T : Terms Slot Call Re
         all_along (λ p. Unit {0}) Q old new looked.many
         (λ k p q at at' nothing. let look = looked.each k p q at at' in (subst (λ x. IsPageOf (caller_of x) h (page x)) (some_same new k q at') (pages k q (slice_get_within new k q at')), (look.word, look.shows, look.size)))
         (λ k d' within. tt) in
-        let one = contained (λ (q : Pass Slot Call Reply Plan Part Name). caller_of q) Q new e.caller all (still_of_all_callers every e.caller below) in
+        let one = contained (λ (q : Pass Slot Call Reply Plan Part Name). caller_of q) Q new e.caller all (every e.caller below) in
         let fits = one.1.0 in
         let q : Pass Slot Call Reply Plan Part Name = one.0 in
         let none : entries_of e.caller fits.begins.0 ≡ [] =

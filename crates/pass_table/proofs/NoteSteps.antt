@@ -55,7 +55,7 @@ module _ {Slot Call Reply State Plan Part Name : Type 0} (T : Terms Slot Call Re
       let seen : IsPrefix w.seen is.book.history = subst (FitsAs T.rests is.book is.parts is.seat is.made other w) note (is.seats.fits other w there') in
       let own : FitsAs T.rests is.book is.parts is.seat is.made id (with_pending v w) v.role =
       subst (FitsAs T.rests is.book is.parts is.seat is.made id (with_pending v w)) (sym role)
-      record { below = fits.below; seated = fits.seated; page = fits.page; part = fits.part; rested = fits.rested; pending = seen; merged = fits.merged } in
+      record { below = fits.below; seated = fits.seated; page = fits.page; part = fits.part; rested = fits.rested; pending = seen; merged = fits.merged; distinct = fits.distinct } in
       reseated T opens step plan s is is.seat (set views' other (spent T))
       (λ k u at.
       ⊎_elim (λ t. subst (λ x. KnowsPlan T.rests is.book is.parts is.seat is.made k plan x x.role) t.1 tt)
@@ -108,6 +108,7 @@ module _ {Slot Call Reply State Plan Part Name : Type 0} (T : Terms Slot Call Re
                 rested = fits.rested;
                 pending = (h, refl);
                 merged = subst (λ l. All (MergedFits T.rests book' is.parts is.seat is.made id) l) (sym single) (All-nil _);
+                distinct = fits.distinct;
               };
         },
         (

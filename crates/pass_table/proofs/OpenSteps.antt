@@ -15,7 +15,7 @@ use Rattle.pass_table.specs.declared.views.View.{View}
 use Rattle.pass_table.specs.Terms.{Terms, put}
 use Rattle.pass_table.specs.Views.{blank, opener, opener_next, newcomer}
 use Rattle.pass_table.specs.Rule.{FitsAs, KnowsPlan, TableInvariant}
-use Rattle.pass_table.proofs.Lists.{at_end, put_here, put_else}
+use Rattle.pass_table.proofs.Lists.{at_end, put_here, put_else, pairs_one}
 
 blank_page : {Call Reply : Type 0} (n c : ℕ) (page : Page Call Reply) → slice_get (replicate n blank) c ≡ Some page → page ≡ blank
 blank_page zero c page at = absurd cc
@@ -83,6 +83,7 @@ module _ {Slot Call Reply State Plan Part Name : Type 0} (T : Terms Slot Call Re
           part = one.part;
           rested = one.rested;
         };
+    distinct = fits.distinct;
   }
   raised book parts seat made room k u Note away fits = fits
   raised book parts seat made room k u Spent away fits = tt
@@ -107,6 +108,7 @@ module _ {Slot Call Reply State Plan Part Name : Type 0} (T : Terms Slot Call Re
         rested = refl;
         pending = (is.book.history, refl);
         merged = All-nil _;
+        distinct = pairs_one (λ x y. x ≢ y) v.number;
       } in record {
         book = is.book;
         parts = is.parts;

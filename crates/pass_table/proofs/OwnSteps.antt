@@ -75,6 +75,7 @@ module _ {Slot Call Reply State Plan Part Name : Type 0} (T : Terms Slot Call Re
                   rested = refl;
                   pending = prefix_trans me.0.pending_note is.book.history book'.history fits.pending grows;
                   merged = subst (λ l. All (MergedFits T.rests book' (put is.parts me.0.number e.part) is.seat is.made id) l) (sym single) (All-nil _);
+                  distinct = fits.distinct;
                 };
           },
           sound_of book' w history own,

@@ -41,6 +41,7 @@ module _ {Call Reply State Plan Part Name : Type 0} (rests : Part → Bool) (boo
               part = others p.caller isnt' ∙ one.part;
               rested = one.rested;
             };
+        distinct = fits.distinct;
       }
   fits_kept k v Note away fits = prefix_trans v.seen book.history book'.history fits grows
   fits_kept k v Spent away fits = tt

@@ -1,5 +1,5 @@
--- What an opening gives, and what a close asks.
-use Rattle.std.specs.Prelude.{◌≡◌, ℕ, ◌<◌, List, [], length, map, slice_get, Some, All, Contains}
+-- What an opening gives.
+use Rattle.std.specs.Prelude.{◌≡◌, ℕ, List, [], length, slice_get, Some, All}
 use Rattle.pass_table.specs.declared.passes.Pass.{Pass}
 use Rattle.pass_table.specs.declared.tables.PassTable.{PassTable}
 use Rattle.pass_table.specs.Terms.{Terms}
@@ -24,11 +24,7 @@ module _ {C O Slot Plan Part Name Call Reply State : Type 0} (T : Terms Slot Cal
   abbrev pub AreOfOpening : List (Pass Slot Call Reply Plan Part Name) → Type 0
   AreOfOpening passes = All (λ p. pass_opening p ≡ opening_of d) passes
 
-  -- each caller's pass is among them
-  abbrev pub AreOfAllCallers : List (Pass Slot Call Reply Plan Part Name) → Type 0
-  AreOfAllCallers passes = (caller : ℕ) → caller < T.callers (plan_of d) → Contains (map (λ (p : Pass Slot Call Reply Plan Part Name). caller_of p) passes) caller
-
-  -- The object was opened with this plan, and has a new pass for each caller, in order of number. They are the passes of all callers
+  -- the object was opened with this plan, and has a new pass for each caller, in order of number
   pub record IsOpened (plan : Plan) (words slots : ℕ) (passes : List (Pass Slot Call Reply Plan Part Name)) : Type 0 where
     pub planned : plan_of d ≡ plan
     pub words_are : (table_of d).words ≡ words
@@ -36,4 +32,3 @@ module _ {C O Slot Plan Part Name Call Reply State : Type 0} (T : Terms Slot Cal
     pub count : length passes ≡ T.callers plan
     pub each : AreInOrder IsNewPass passes
     pub opening : AreOfOpening passes
-    pub all : AreOfAllCallers passes

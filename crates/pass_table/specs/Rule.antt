@@ -1,5 +1,5 @@
 -- The rule of a table: there is one legal history with its book, of which each view has seen a beginning, and the object's own rule holds of the words.
-use Rattle.std.specs.Prelude.{◌≡◌, ℕ, ◌<◌, ◌≤◌, Bool, List, length, slice_get, All, Some}
+use Rattle.std.specs.Prelude.{◌≡◌, ◌≢◌, ℕ, ◌<◌, ◌≤◌, Bool, List, length, slice_get, All, AllPairs, Some}
 use mathlib.Core.Option.{some}
 use mathlib.Core.List.{IsPrefix}
 use lib.ListN.{get_elem?}
@@ -10,7 +10,7 @@ use Rattle.pass_table.specs.declared.views.Role.TheVariants.{Opener, Caller, Not
 use Rattle.pass_table.specs.declared.views.Merged.{Merged}
 use Rattle.pass_table.specs.declared.views.View.{View}
 use Rattle.pass_table.specs.Terms.{Terms}
-use Rattle.pass_table.specs.Views.{blank, page_of, page_merged}
+use Rattle.pass_table.specs.Views.{blank, page_of, page_merged, numbers_of}
 
 module _ {Call Reply State Part : Type 0} (rests : Part → Bool) (book : Book Call Reply State) (parts : ℕ → Part) (seat : ℕ → ℕ) (made k : ℕ) where
   -- what is known of a caller whose pass was taken in by the seat k
@@ -31,6 +31,7 @@ module _ {Call Reply State Part : Type 0} (rests : Part → Bool) (book : Book C
       pub rested : v.rests ≡ rests v.part
       pub pending : IsPrefix v.pending_note book.history
       pub merged : All MergedFits v.merged
+      pub distinct : AllPairs (λ x y. x ≢ y) (numbers_of v)
 
     -- what is known of a view by its role
     abbrev pub FitsAs : View Call Reply Plan Part Name → Role → Type 0

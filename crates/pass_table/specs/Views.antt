@@ -1,5 +1,5 @@
 -- Views: what contracts see of one, those that an opening makes, and those of notes.
-use Rattle.std.specs.Prelude.{◌+◌, [], ◌∷◌, Some, None}
+use Rattle.std.specs.Prelude.{ℕ, ◌+◌, List, [], ◌∷◌, ◌++◌, map, Some, None}
 use Rattle.pass_book.specs.Pages.{Page}
 use Rattle.pass_table.specs.declared.views.Role.TheVariants.{Opener, Caller, Note, Spent}
 use Rattle.pass_table.specs.declared.views.Merged.{Merged}
@@ -16,6 +16,10 @@ page_merged m = record { mine = m.mine; seen = m.seen }
 module _ {Call Reply Plan Part Name : Type 0} where
   abbrev pub page_of : View Call Reply Plan Part Name → Page Call Reply
   page_of v = record { mine = v.mine; seen = v.seen }
+
+  -- the callers whose passes a view has: those that it took in, the last one first, and then its own
+  abbrev pub numbers_of : View Call Reply Plan Part Name → List ℕ
+  numbers_of v = map (λ (m : Merged Call Reply Part). m.caller) v.merged ++ v.number ∷ []
 
   -- the next caller's number
   abbrev pub opener_next : View Call Reply Plan Part Name → View Call Reply Plan Part Name

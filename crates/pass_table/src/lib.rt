@@ -18,6 +18,7 @@ mod opening;
 mod passes;
 mod pauses;
 mod plays;
+mod slots;
 mod steps;
 mod tables;
 mod views;

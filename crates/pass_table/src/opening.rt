@@ -3,7 +3,7 @@ ghost use Rattle.std.specs.Prelude.{◌≡◌, ℕ, ◌<◌, [], length, map, If
 ghost use mathlib.Core.Option.{some};
 ghost use Rattle.pass_table.specs.Views.{opener as first_view};
 ghost use Rattle.pass_table.specs.Passes.{table_of, plan_of};
-ghost use Rattle.pass_table.specs.Openings.{IsOpened, IsNewPass, AreInOrder, AreOfOpening, AreOfAllCallers};
+ghost use Rattle.pass_table.specs.Openings.{IsOpened, IsNewPass, AreInOrder, AreOfOpening};
 
 use crate::clients::{Client, PassOf, ViewOf};
 use crate::passes::{CallerSeat, Pass};
@@ -59,7 +59,6 @@ impl<C: Client> PassTable<C> {
         ensures count { length passes.new.items ≡ callers }
         ensures each { AreInOrder (IsNewPass C.terms self.now) passes.new.items }
         ensures opening { AreOfOpening C.terms self.now passes.new.items }
-        ensures all { AreOfAllCallers C.terms self.now passes.new.items }
     {
         for caller in 0..callers {
             let seat = self.table.shared.split_seat::<NextPass<C>>(&mut opener);

@@ -42,6 +42,23 @@ impl<C: Client> PassTable<C> {
             .store::<Step<C, M>>(&mut seat.seat, word, new);
     }
 
+    /// Exchanges a word for another number, and gives the number that stood there.
+    #[inline]
+    pub fn swap<M: Kind<C>>(&self, seat: &mut SeatOf<C>, word: usize, new: u64) -> u64
+        requires seat { IsSeatOf self.now seat.old }
+        requires word { word < (table_of self.now).words }
+        requires permits { let plan = plan_of self.now in let v = view_of seat.old in
+            Permits C.terms C.Object.opens C.Object.step plan (table_of self.now).slots v.number v.rests v.part (carried_of seat.old) word (λ _. new)
+            (M.tells plan v.number v.part (carried_of seat.old)) }
+        ensures seat { IsSeatOf self.now seat.new }
+        ensures steps { let plan = plan_of self.now in let v = view_of seat.old in
+            Steps C.terms C.Object.opens C.Object.step plan (M.tells plan v.number v.part (carried_of seat.old)) (me_of seat.old) result (me_of seat.new) }
+    {
+        self.table
+            .shared
+            .swap::<Step<C, M>>(&mut seat.seat, word, new)
+    }
+
     /// Exchanges a word from one number to another, where it is the one, and gives the number that stood there.
     #[inline]
     pub fn compare_exchange<M: Kind<C>>(

@@ -1,29 +1,27 @@
 -- A bag of one caller: all its items are in the segments of the first locale, so that it is full exactly where each of those is.
 use Rattle.std.proofs.Common.{◌≡◌, ℕ, zero, suc, ◌*◌, ◌/◌, ◌%◌, ◌<◌, ◌≤◌, List, [], length, ap, sym, ◌∙◌, subst, arith, ⊎_elim, length-append, Option}
+use Rattle.std.specs.Prelude.{Contains}
 use Rattle.std.specs.List.{All}
 use Rattle.std.proofs.Math.Nat.{mod-le, div-eq_of_lt, div-lt_iff_lt-mul}
 use Rattle.std.proofs.lemmas.Nat.{mul-le}
 use Rattle.std.proofs.lemmas.Bool.{cases_lt}
-use mathlib.Core.Option.{some}
 use mathlib.Core.Logic.{dite}
 use native.Mathlib.Decide.{ℕ_discrete}
-use lib.ListN.{get_elem?}
-use Rattle.atomic_table.specs.Table.{State}
 use Rattle.segment_store.specs.Contents.{Contents}
-use Rattle.pass_book.specs.Histories.{IsOfCallers}
-use Rattle.pass_book.specs.Pages.{IsPageOf}
-use Rattle.pass_book.proofs.PageSteps.{alone_whole}
+use Rattle.seq_objects.specs.declared.bags.BagCall.{BagCall}
+use Rattle.seq_objects.specs.declared.bags.BagReply.{BagReply}
+use Rattle.pass_table.specs.Terms.{Moment}
 use Rattle.shared_bag.specs.declared.shapes.Shape.{Shape}
-use Rattle.shared_bag.specs.declared.views.Plan.{Plan}
-use Rattle.shared_bag.specs.declared.views.Role.TheVariants.{Caller}
-use Rattle.shared_bag.specs.declared.views.View.{View}
+use Rattle.shared_bag.specs.declared.clients.Plan.{Plan}
+use Rattle.shared_bag.specs.declared.clients.Hand.{Hand}
 use Rattle.shared_bag.specs.Shapes.{IsShape, IsOwn, all_segments, locale_room}
-use Rattle.shared_bag.specs.Counted.{LeavesItems, Counts, items_of}
-use Rattle.shared_bag.specs.Rule.{page_of, IsStill, Kept}
-use Rattle.shared_bag.specs.Steps.{FoundAllFull}
+use Rattle.shared_bag.specs.Counted.{Counts, items_of}
+use Rattle.shared_bag.specs.Rule.{IsStill, BagRule}
+use Rattle.shared_bag.specs.Kinds.{FoundAllFull, found_with}
 use Rattle.shared_bag.proofs.Items.{one_count}
-use Rattle.shared_bag.proofs.Seats.{caller_fits, caller_knows}
-use Rattle.shared_bag.proofs.CountLooks.{all_of, made_alone}
+
+all_of : {A : Type 0} (P : A → Type 0) (l : List A) (x : A) → All P l → Contains l x → P x
+all_of P l x all has = subst P has.2 (all has.0 x has.1)
 
 -- segments past the first m are empty
 front_only : (has : ℕ → List ℕ) (m n : ℕ) → m ≤ n → ((j : ℕ) → m ≤ j → j < n → has j ≡ []) → length (items_of has n) ≡ length (items_of has m)
@@ -77,74 +75,40 @@ module _ (shape : Shape) (is : IsShape shape) where
   past_first k from =
       ⊎_elim (λ less. absurd (let low : k < 1 * shape.segments = (div-lt_iff_lt-mul some_segment).0 less in omega arith)) (λ least. least) (cases_lt (k / shape.segments) 1)
 
-module _ {K : Type 0} (keeps : ℕ → Type 0) (plan : Plan K) (s : State (Option Contents) (View K)) (kept : Kept keeps plan s) (id : ℕ) (v : View K)
-    (here : get_elem? s.views id ≡ some v) (role : v.role ≡ Caller) (one : v.shape.callers ≡ 1) where
-  made_one : kept.made ≡ 1
-  made_one = made_alone keeps plan s kept id v here role one
-
-  is_first : v.number ≡ 0
-  is_first = let below = (caller_fits keeps plan s kept id v here role).below in let made = made_one in omega arith
-
+module _ {K : Type 0} (keeps : K → ℕ → Type 0) (plan : Plan K) (m : Moment (Option Contents) BagCall BagReply Hand) (rule : BagRule keeps plan m) (c : ℕ) (below : c < plan.shape.callers) (one : plan.shape.callers ≡ 1) where
   -- all items are in the first locale
-  first_has_all : length (items_of kept.has (all_segments plan.shape)) ≡ length (items_of kept.has plan.shape.segments)
+  first_has_all : length (items_of rule.has (all_segments plan.shape)) ≡ length (items_of rule.has plan.shape.segments)
   first_has_all =
-      front_only kept.has plan.shape.segments (all_segments plan.shape) (first_locale plan.shape kept.shaped)
-      (λ j from to. (kept.segments j to).unused (let past = past_first plan.shape kept.shaped j from in let made = made_one in omega arith))
+      front_only rule.has plan.shape.segments (all_segments plan.shape) (first_locale plan.shape rule.shaped)
+      (λ j from to. (rule.segments j to).unused (let past = past_first plan.shape rule.shaped j from in omega arith))
 
   -- the caller's locale is the first
-  own_first : (k : ℕ) → IsOwn v.shape v.number k → k / plan.shape.segments ≡ 0
-  own_first k own =
-      let knows = caller_knows keeps plan s kept id v here role in
-      let own' : k / plan.shape.segments ≡ v.number % plan.shape.locales = subst (λ x. IsOwn x v.number k) knows.0 own in
-      let low : v.number % plan.shape.locales ≤ v.number = mod-le v.number plan.shape.locales in
-      let first = is_first in omega arith
+  own_first : (k : ℕ) → IsOwn plan.shape c k → k / plan.shape.segments ≡ 0
+  own_first k own = let low : c % plan.shape.locales ≤ c = mod-le c plan.shape.locales in omega arith
 
-  first_own : (k : ℕ) → k < plan.shape.segments → IsOwn v.shape v.number k
+  first_own : (k : ℕ) → k < plan.shape.segments → IsOwn plan.shape c k
   first_own k less =
-      let knows = caller_knows keeps plan s kept id v here role in
-      let low : v.number % plan.shape.locales ≤ v.number = mod-le v.number plan.shape.locales in
+      let low : c % plan.shape.locales ≤ c = mod-le c plan.shape.locales in
       let at : k / plan.shape.segments ≡ 0 = div-eq_of_lt less in
-      let own : IsOwn plan.shape v.number k = (let first = is_first in omega arith) in
-      subst (λ x. IsOwn x v.number k) (sym knows.0) own
+      omega arith
 
-  -- it has seen the whole history
-  sees_whole : v.seen ≡ kept.history
-  sees_whole =
-      let fits = caller_fits keeps plan s kept id v here role in
-      alone_whole kept.history (page_of v) (subst (λ n. IsOfCallers n kept.history) made_one kept.log.callers) (subst (λ c. IsPageOf c kept.history (page_of v)) is_first fits.page)
-
-module _ {K : Type 0} (keeps : ℕ → Type 0) (plan : Plan K) (s : State (Option Contents) (View K)) (kept : Kept keeps plan s) (id : ℕ) where
   -- where the bag has as many items as a locale has room for, each segment of the caller's locale is full
-  pub alone_full : (v : View K) (k : ℕ) → get_elem? s.views id ≡ some v → v.role ≡ Caller → k < all_segments plan.shape → v.shape.callers ≡ 1 → IsOwn v.shape v.number k → Counts v.seen (locale_room v.shape)
-      → length (kept.has k) ≡ v.shape.room
-  alone_full v k here role within one own counts =
+  pub alone_full : (k : ℕ) → k < all_segments plan.shape → IsOwn plan.shape c k → Counts m.history (locale_room plan.shape) → length (rule.has k) ≡ plan.shape.room
+  alone_full k within own counts =
       let n : ℕ = all_segments plan.shape in
-      let knows = caller_knows keeps plan s kept id v here role in
-      let least = first_locale plan.shape kept.shaped in
-      let less : k < plan.shape.segments = in_first plan.shape kept.shaped k (own_first keeps plan s kept id v here role one k own) in
-      let leaves : LeavesItems kept.history counts.0 = subst (λ h. LeavesItems h counts.0) (sees_whole keeps plan s kept id v here role one) counts.1 in
-      let same = one_count kept.history counts.0 (items_of kept.has n) leaves kept.leaves in
-      let all = first_has_all keeps plan s kept id v here role one in
-      let room : locale_room v.shape ≡ locale_room plan.shape = ap locale_room knows.0 in
+      let least = first_locale plan.shape rule.shaped in
+      let less : k < plan.shape.segments = in_first plan.shape rule.shaped k (own_first k own) in
+      let same = one_count m.history counts.0 (items_of rule.has n) counts.1 rule.leaves in
+      let all = first_has_all in
       let long = counts.2 in
-      let whole : length (items_of kept.has plan.shape.segments) ≡ plan.shape.segments * plan.shape.room = omega (arith, same, all, room, long) in
-      count_full kept.has plan.shape.room plan.shape.segments (λ j below. (kept.segments j (omega arith)).short) whole k less ∙ ap (λ x. x.room) (sym knows.0)
+      let whole : length (items_of rule.has plan.shape.segments) ≡ plan.shape.segments * plan.shape.room = omega (arith, same, all, long) in
+      count_full rule.has plan.shape.room plan.shape.segments (λ j below'. (rule.segments j (omega arith)).short) whole k less
 
   -- where the caller has found each segment of its locale full, the bag has as many items as a locale has room for
-  pub alone_whole_room : (v w : View K) → get_elem? s.views id ≡ some v → v.role ≡ Caller → w.shape ≡ v.shape → w.number ≡ v.number → w.shape.callers ≡ 1 → (kept.made ≡ 1 → All (IsStill kept.has) w.found) → FoundAllFull w
-      → Counts kept.history (locale_room w.shape)
-  alone_whole_room v w here role shape number one still all =
+  pub alone_whole_room : (hand : Hand) → All (IsStill rule.has) hand.found → FoundAllFull plan.shape c hand → Counts m.history (locale_room plan.shape)
+  alone_whole_room hand still all =
       let n : ℕ = all_segments plan.shape in
-      let one' : v.shape.callers ≡ 1 = ap (λ x. x.callers) (sym shape) ∙ one in
-      let knows = caller_knows keeps plan s kept id v here role in
-      let is : w.shape ≡ plan.shape = shape ∙ knows.0 in
-      let least = first_locale plan.shape kept.shaped in
-      let fits = still (made_one keeps plan s kept id v here role one') in
-      let full : (j : ℕ) → j < plan.shape.segments → length (kept.has j) ≡ w.shape.room = λ j less.
-      let own : IsOwn v.shape v.number j = first_own keeps plan s kept id v here role one' j less in
-      let own' : IsOwn w.shape w.number j = subst (λ c. IsOwn w.shape c j) (sym number) (subst (λ x. IsOwn x v.number j) (sym shape) own) in
-      let within : j < all_segments w.shape = subst (λ x. j < all_segments x) (sym is) (omega arith) in
-      all_of (IsStill kept.has) w.found (record { segment = j; length = w.shape.room }) fits (all j within own') in
-      let whole : length (items_of kept.has plan.shape.segments) ≡ plan.shape.segments * w.shape.room = full_count kept.has w.shape.room plan.shape.segments full in
-      let room : plan.shape.segments * w.shape.room ≡ locale_room w.shape = ap (λ x. x.segments * w.shape.room) (sym is) in
-      (items_of kept.has n, kept.leaves, first_has_all keeps plan s kept id v here role one' ∙ (whole ∙ room))
+      let least = first_locale plan.shape rule.shaped in
+      let full : (j : ℕ) → j < plan.shape.segments → length (rule.has j) ≡ plan.shape.room =
+      λ j less. all_of (IsStill rule.has) hand.found (found_with j plan.shape.room) still (all j (omega arith) (first_own j less)) in
+      (items_of rule.has n, rule.leaves, first_has_all ∙ full_count rule.has plan.shape.room plan.shape.segments full)

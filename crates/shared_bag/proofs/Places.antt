@@ -1,7 +1,7 @@
 -- A write of one word leaves the others: the count and the turns do not lie on one another.
 use Rattle.std.proofs.Common.{◌≡◌, ◌≢◌, ℕ, ◌<◌, List, length, set, arith, slice_index}
 use Rattle.std.proofs.lemmas.List.{get_or-set_same, get_or-set_other}
-use Rattle.shared_bag.specs.Shapes.{turn_in, turn_place}
+use Rattle.shared_bag.specs.Layout.{turn_in, turn_place}
 
 module _ (words : List ℕ) (word : ℕ) where
   pub turn_in-set_count : (k : ℕ) → turn_in (set words 0 word) k ≡ turn_in words k

@@ -1,285 +1,133 @@
--- The visits of an add or a removal, one after another.
-use Rattle.std.proofs.Common.{◌≡◌, ◌≢◌, ℕ, zero, suc, ◌<◌, Bool, true, false, List, [], ◌∷◌, ◌++◌, length, refl, ap, ap₂, sym, ◌∙◌, subst, arith, inl, inr, append_assoc, length-append, Option, Some, None, Ok, Err}
-use Rattle.std.specs.Prelude.{IfSome, Contains}
-use mathlib.Core.Logic.{dite}
-use native.Mathlib.Decide.{ℕ_discrete}
-use Rattle.atomic_table.specs.Table.{Me}
+-- One visit of an add or a removal, from what it does with the segment.
+use Rattle.std.proofs.Common.{◌≡◌, ℕ, ◌<◌, true, false, List, [], ◌∷◌, ◌++◌, length, refl, ap, ap₂, sym, ◌∙◌, subst, arith, inl, Option, Some, None}
+use Rattle.std.specs.Option.{is_some}
 use Rattle.segment_store.specs.Contents.{Contents}
-use Rattle.pass_book.specs.Histories.{IsOfCallers}
-use Rattle.pass_book.specs.Pages.{IsPage, IsPageOf}
-use Rattle.pass_book.proofs.PageSteps.{alone_whole}
 use Rattle.seq_objects.specs.declared.bags.BagCall.TheVariants.{Add, Remove}
 use Rattle.seq_objects.specs.declared.bags.BagReply.TheVariants.{Added, Took}
-use Rattle.shared_bag.specs.declared.faults.AddFault.TheVariants.{Busy as BusyAdd, Full, OutOfMemory}
-use Rattle.shared_bag.specs.declared.visits.AddVisit.TheVariants.{Done, Held, Full as FullVisit, NoMemory}
-use Rattle.shared_bag.specs.declared.visits.TakeVisit.TheVariants.{Found as FoundItem, Held as HeldTake, Empty as EmptyVisit}
-use Rattle.shared_bag.specs.declared.views.Found.{Found}
-use Rattle.shared_bag.specs.declared.views.View.{View}
-use Rattle.shared_bag.specs.Shapes.{all_segments, tried, locale_room, IsShape, IsOwn}
-use Rattle.shared_bag.specs.Counted.{Counts}
-use Rattle.shared_bag.specs.Rule.{page_of}
-use Rattle.shared_bag.specs.Steps.{Looks, count_read, turn_read, length_read, Passes, Roams, Acts, FoundAllFull, GetsTurn, CountsUp, CountsDown, LeavesAsFound, LeavesCounted}
-use Rattle.shared_bag.specs.Visits.{IsHeld, HasLeft, FindsNoRoom, FindsNothing, Visits, SomeHeld, HadRoom, AddsAt, TakesAt, Sweeps}
-use Rattle.shared_bag.specs.Tries.{TriesAdd}
-use Rattle.shared_bag.proofs.Orders.{tried_all, own_tried}
-use Rattle.shared_bag.proofs.Roamings.{passes_none, passes_of, roams_after, acts_after, acts_left}
+use Rattle.seq_objects.specs.BagSteps.{BagStep}
+use Rattle.seq_objects.specs.Meanings.{BagOpens}
+use Rattle.pass_table.proofs.Going.{goes_then, goes_still}
+use Rattle.shared_bag.specs.Layout.{slot_place}
+use Rattle.shared_bag.specs.declared.clients.Plan.{Plan}
+use Rattle.shared_bag.specs.declared.clients.Holding.{Holding}
+use Rattle.shared_bag.specs.declared.clients.Kind.TheVariants.{Put}
+use Rattle.shared_bag.specs.declared.visits.Kept.{Kept}
+use Rattle.shared_bag.specs.declared.visits.AddVisit.TheVariants.{Done, Full, NoMemory}
+use Rattle.shared_bag.specs.declared.visits.TakeVisit.TheVariants.{Found as FoundItem, Empty}
+use Rattle.shared_bag.specs.declared.shapes.Shape.{Shape}
+use Rattle.shared_bag.specs.Shapes.{IsOwn, all_segments}
+use Rattle.shared_bag.specs.Rule.{bag_terms, holds_none}
+use Rattle.shared_bag.specs.Kinds.{Slots, BagMe, Does, entry, holding, found_with, turn_read, count_read, length_read, last_items, with_items, FoundAllFull}
+use Rattle.shared_bag.specs.Turns.{IsHolding, IsWithin, IsEmptyOwn, IsKeeping, BagGoes, Gets, LeavesFound, LeavesChanged, TakesHere, HadRoom, AddsAt, TakesAt, held_of, slots_of, kept_segment}
+use Rattle.shared_bag.proofs.TurnSteps.{held_some}
 
-abbrev items_in : Option Contents → List ℕ
-items_in None = []
-items_in (Some a) = a.items
+-- a caller between two calls has nothing in hand
+pub rest_holds : {K : Type 0} (m : BagMe K) → (m.0.rests ≡ true) × (m.1 ≡ []) → IsHolding m [] []
+rest_holds m rests = (rests.0, rests.1, (λ busy. absurd (let is = rests.0 in cc (is, busy))))
 
-abbrev first_items : List (ℕ × Option Contents) → List ℕ
-first_items [] = []
-first_items (x ∷ xs) = items_in x.1
+pub none_is : (kept : Option Kept) → is_some kept ≡ false → kept ≡ None
+none_is None is = refl
+none_is (Some own) is = absurd cc
 
--- one slot has the same items, by either name
-pub same_items : (k : ℕ) (a b : Contents) (l : List (ℕ × Option Contents)) → l ≡ (k, Some a) ∷ [] → l ≡ (k, Some b) ∷ [] → a.items ≡ b.items
-same_items k a b l p q = ap first_items (sym p ∙ q)
+-- what hangs on the number of the segment that is kept alone
+pub same_slots : (kept kept' : Option Kept) → kept_segment kept' ≡ kept_segment kept → slots_of kept' ≡ slots_of kept
+same_slots None None same = refl
+same_slots None (Some own) same = absurd cc
+same_slots (Some own) None same = absurd cc
+same_slots (Some own) (Some own') same = let named : own'.segment ≡ own.segment = cc same in ap (λ s. (slot_place s, None) ∷ []) named
 
-some_later : (callers caller : ℕ) (words here : Looks) → SomeHeld callers caller words → SomeHeld callers caller (words ++ here)
-some_later callers caller words here (before, after, segment, turn, names, is) =
-    (before, after ++ here, segment, turn, names, ap (λ l. l ++ here) is ∙ append_assoc before (turn_read segment turn ∷ after) here)
+pub same_within : (shape : Shape) (kept kept' : Option Kept) → kept_segment kept' ≡ kept_segment kept → IsWithin shape kept → IsWithin shape kept'
+same_within shape None None same within = tt
+same_within shape None (Some own) same within = absurd cc
+same_within shape (Some own) None same within = tt
+same_within shape (Some own) (Some own') same within = let named : own'.segment ≡ own.segment = cc same in subst (λ s. s < all_segments shape) (sym named) within
 
-contains_cons : {A : Type 0} (a x : A) (l : List A) → Contains l x → Contains (a ∷ l) x
-contains_cons a x l has = (suc has.0, omega (arith, has.1), has.2)
+module _ {K : Type 0} (keeps : K → ℕ → Type 0) (plan : Plan K) where
+  -- an item was put into the segment that was claimed last
+  pub put_holds : (item found segment : ℕ) (items : List ℕ) (held : List Holding) (slots : Slots) (k l : BagMe K) → Does keeps plan (Put item) k found l → IsHolding k (holding segment items ∷ held) slots
+      → IsHolding l (holding segment (items ++ item ∷ []) ∷ held) slots
+  put_holds item found segment items held slots k l does is =
+      let goes = does.1 in
+      let same = held_some k (holding segment items) held slots is in (
+        goes.3 ∙ ap (λ h. holds_none (with_items h (last_items h ++ item ∷ []))) same,
+        goes.2 ∙ is.1,
+        (λ busy. ap (λ x. x.held) goes.1 ∙ ap (λ h. with_items h (last_items h ++ item ∷ [])) same),
+      )
 
--- lists that are the same have the same last item, and the same items before
-pub same_last : (xs ys : List ℕ) (x y : ℕ) → xs ++ x ∷ [] ≡ ys ++ y ∷ [] → (xs ≡ ys) × (x ≡ y)
-same_last [] [] x y e = (refl, cc e)
-same_last [] (b ∷ ys) x y e = absurd (let long = ap length e in omega (arith, length-append ys (y ∷ [])))
-same_last (a ∷ xs) [] x y e = absurd (let long = ap length e in omega (arith, length-append xs (x ∷ [])))
-same_last (a ∷ xs) (b ∷ ys) x y e =
-    let head : a ≡ b = cc e in
-    let rest : xs ++ x ∷ [] ≡ ys ++ y ∷ [] = cc e in
-    let both = same_last xs ys x y rest in
-    (ap₂ (λ c l. c ∷ l) head both.0, both.1)
+  module _ (segment : ℕ) (a : Contents) (m k : BagMe K) (got : Gets keeps plan segment a m k) where
+    same_number : k.0.number ≡ m.0.number
+    same_number = got.goes.same.number
 
-module _ {K : Type 0} where
-  -- a segment that was got and then left as it was found
-  pub left_visit : (k count : ℕ) (v : Me (Option Contents) (View K)) (m : Me (Option Contents) (View K)) (u w : View K) → GetsTurn k v 0 m → u ≡ m.0 → length m.0.held ≡ count → LeavesAsFound u w
-      → (words : Looks) × Roams v.0 w words × HasLeft count k words × (w.found ≡ record { segment = k; length = count } ∷ v.0.found)
-      × (w.shape.callers ≡ 1 → FoundAllFull w → Counts w.seen (locale_room w.shape))
-  left_visit k count v m u w got same long leaves =
-      let left : LeavesAsFound m.0 w = subst (λ x. LeavesAsFound x w) same leaves in
-      let roams : Roams m.0 w (length_read k count ∷ []) = subst (λ x. Roams m.0 w (length_read x count ∷ [])) got.named (subst (λ x. Roams m.0 w (length_read m.0.segment x ∷ [])) long left.roams) in
-      let f : Found = record { segment = m.0.segment; length = length m.0.held } in
-      let f' : Found = record { segment = k; length = count } in
-      let same' : f ≡ f' = ap₂ (λ a b. record { segment = a; length = b }) got.named long in (
-        turn_read k 0 ∷ length_read k count ∷ [],
-        roams_after v.0 m.0 w (turn_read k 0 ∷ []) (length_read k count ∷ []) (passes_of v.0 m.0 (turn_read k 0 ∷ []) got.roams) roams,
+    -- what is in hand, by a list that is the same as the contents'
+    pub got_holds : (items : List ℕ) (held : List Holding) (slots : Slots) → items ≡ a.items → IsHolding m held slots → IsHolding k (holding segment items ∷ held) ((slot_place segment, None) ∷ slots)
+    got_holds items held slots same is = subst (λ l. IsHolding k (holding segment l ∷ held) ((slot_place segment, None) ∷ slots)) (sym same) (got.holds held slots is)
+
+    had_room : IsOwn plan.shape m.0.number segment → length a.items < plan.shape.room → HadRoom keeps plan m.0
+    had_room own less one counts = let full = got.full one own counts in omega arith
+
+    module _ (items : List ℕ) (n : BagMe K) (left : LeavesFound keeps plan segment items k n) where
+      left_goes : (count : ℕ) → length items ≡ count → BagGoes keeps plan m.0 n.0 (turn_read segment 0 ∷ length_read segment count ∷ []) []
+      left_goes count long =
+          subst (λ c. BagGoes keeps plan m.0 n.0 (turn_read segment 0 ∷ length_read segment c ∷ []) []) long
+          (goes_then (bag_terms keeps) BagOpens BagStep plan m.0 k.0 n.0 (turn_read segment 0 ∷ []) (length_read segment (length items) ∷ []) [] got.goes left.goes)
+
+      pub adds_full : (item : ℕ) → length items ≡ plan.shape.room → AddsAt keeps plan item segment m.0 n.0 Full
+      adds_full item long = (
+        turn_read segment 0 ∷ length_read segment plan.shape.room ∷ [],
+        left_goes plan.shape.room long,
         refl,
-        left.found ∙ ap₂ (λ a b. a ∷ b) same' got.known,
-        left.full,
+        left.found ∙ ap₂ (λ c l. found_with segment c ∷ l) long got.found,
+        (λ one all. left.counts one (subst (λ c. FoundAllFull plan.shape c n.0.part) (sym same_number) all)),
       )
 
-  -- a segment that was got, into which the item was added
-  pub added_visit : (k item found : ℕ) (v m : Me (Option Contents) (View K)) (u t w : View K) → IsPage v.0.number (page_of v.0) → GetsTurn k v 0 m → u ≡ m.0 → CountsUp item u found t → LeavesCounted t w
-      → Acts v.0 w (Add item) Added (turn_read k 0 ∷ count_read found ∷ [])
-  added_visit k item found v m u t w own got same counts leaves =
-      let acts : Acts m.0 t (Add item) Added (count_read found ∷ []) = subst (λ x. Acts x t (Add item) Added (count_read found ∷ [])) same counts.acts in
-      acts_left v.0 t w (Add item) Added (turn_read k 0 ∷ count_read found ∷ [])
-      (acts_after v.0 m.0 t (Add item) Added (turn_read k 0 ∷ []) (count_read found ∷ []) own (passes_of v.0 m.0 (turn_read k 0 ∷ []) got.roams) acts) leaves
-
-  -- a segment that was got, from which the item was taken
-  pub taken_visit : (keeps : K → ℕ → Type 0) (k item found : ℕ) (others : List ℕ) (v m : Me (Option Contents) (View K)) (u t w : View K) → IsPage v.0.number (page_of v.0) → GetsTurn k v 0 m → u ≡ m.0 → CountsDown keeps item others u found t → LeavesCounted t w
-      → Acts v.0 w Remove (Took item) (turn_read k 0 ∷ count_read found ∷ []) × IfSome v.0.keeper (λ q. keeps q item)
-  taken_visit keeps k item found others v m u t w own got same counts leaves =
-      let acts : Acts m.0 t Remove (Took item) (count_read found ∷ []) = subst (λ x. Acts x t Remove (Took item) (count_read found ∷ [])) same counts.acts in (
-        acts_left v.0 t w Remove (Took item) (turn_read k 0 ∷ count_read found ∷ [])
-            (acts_after v.0 m.0 t Remove (Took item) (turn_read k 0 ∷ []) (count_read found ∷ []) own (passes_of v.0 m.0 (turn_read k 0 ∷ []) got.roams) acts) leaves,
-        subst (λ o. IfSome o (λ q. keeps q item)) (ap (λ x. x.keeper) same ∙ got.roams.same.keeper) counts.kept,
+      pub adds_no_memory : (item : ℕ) → items ≡ a.items → length items < plan.shape.room → IsOwn plan.shape m.0.number segment → AddsAt keeps plan item segment m.0 n.0 NoMemory
+      adds_no_memory item same less own = (
+        turn_read segment 0 ∷ length_read segment (length items) ∷ [],
+        left_goes (length items) refl,
+        (length items, less, refl),
+        had_room own (subst (λ l. length l < plan.shape.room) same less),
       )
 
-  -- what a caller that is alone has seen stays the same where it enters nothing
-  roams_still : (v w : View K) (words : Looks) → IsPage v.number (page_of v) → Roams v w words → v.shape.callers ≡ 1 → w.seen ≡ v.seen
-  roams_still v w words own roams one =
-      let below = roams.below in
-      let first : v.number ≡ 0 = omega arith in
-      let fits : IsPageOf v.number w.seen (page_of v) = record { whole = sym roams.enters.mine ∙ roams.enters.own; own = own; begins = roams.enters.seen } in
-      sym (alone_whole w.seen (page_of v) (subst (λ k. IsOfCallers k w.seen) one roams.callers) (subst (λ c. IsPageOf c w.seen (page_of v)) first fits))
-
-  had_room : (v m : View K) → m.shape ≡ v.shape → (v.shape.callers ≡ 1 → m.seen ≡ v.seen) → HadRoom m → HadRoom v
-  had_room v m shape still had one counts =
-      had (ap (λ s. s.callers) shape ∙ one) (subst (λ s. Counts m.seen (locale_room s)) (sym shape) (subst (λ h. Counts h (locale_room v.shape)) (sym (still one)) counts))
-
-  -- The visits of an add so far. Where all were full, they were found so
-  pub record AddsSoFar (v w : View K) (n : ℕ) (some_held : Bool) : Type 0 where
-    pub words : Looks
-    pub passes : Passes v w words
-    pub roams : n ≢ 0 → Roams v w words
-    pub visits : Visits (FindsNoRoom v.shape v.number) (tried v.shape v.number) n words
-    pub held : some_held ≡ true → SomeHeld v.shape.callers v.number words × (v.shape.callers ≢ 1)
-    pub full : some_held ≡ false → Visits (HasLeft v.shape.room) (tried v.shape v.number) n words
-    pub still : v.shape.callers ≡ 1 → w.seen ≡ v.seen
-    pub found : some_held ≡ false → (j : ℕ) → j < n → Contains w.found (record { segment = tried v.shape v.number j; length = v.shape.room })
-    pub counts : some_held ≡ false → n ≢ 0 → w.shape.callers ≡ 1 → FoundAllFull w → Counts w.seen (locale_room w.shape)
-
-  pub adds_none : (v : View K) → IsPage v.number (page_of v) → AddsSoFar v v 0 false
-  adds_none v own = record {
-    words = [];
-    passes = passes_none v own;
-    roams = λ some. absurd (some refl);
-    visits = refl;
-    held = λ is. absurd (cc is);
-    full = λ is. refl;
-    still = λ one. refl;
-    found = λ is j less. absurd (omega arith);
-    counts = λ is some. absurd (some refl);
-  }
-
-  held_as : (v m : View K) (k k' : ℕ) (here : Looks) → m.shape ≡ v.shape → m.number ≡ v.number → k ≡ k' → IsHeld m.shape.callers m.number k here → IsHeld v.shape.callers v.number k' here
-  held_as v m k k' here shape number same held =
-      subst (λ x. IsHeld v.shape.callers v.number x here) same (subst (λ x. IsHeld v.shape.callers x k here) number (subst (λ x. IsHeld x.callers m.number k here) shape held))
-
-  pub adds_held : (item k n : ℕ) (some_held : Bool) (v m w : View K) → k ≡ tried v.shape v.number n → AddsSoFar v m n some_held → AddsAt item k m w Held → AddsSoFar v w (suc n) true
-  adds_held item k n some_held v m w at so_far (here, roams, held, not_alone) =
-      let same = so_far.passes.same in
-      let all = roams_after v m w so_far.words here so_far.passes roams in
-      let held' : IsHeld v.shape.callers v.number (tried v.shape v.number n) here = held_as v m k (tried v.shape v.number n) here same.shape same.number at held in record {
-        words = so_far.words ++ here;
-        passes = passes_of v w (so_far.words ++ here) all;
-        roams = λ some. all;
-        visits = (so_far.words, here, refl, so_far.visits, inl held');
-        held = λ is. ((so_far.words, [], tried v.shape v.number n, held'.0, held'.1, ap (λ l. so_far.words ++ l) held'.2), subst (λ x. x.callers ≢ 1) same.shape not_alone);
-        full = λ is. absurd (cc is);
-        still = λ one. absurd (not_alone (ap (λ x. x.callers) same.shape ∙ one));
-        found = λ is. absurd (cc is);
-        counts = λ is. absurd (cc is);
-      }
-
-  pub adds_full : (item k n : ℕ) (some_held : Bool) (v m w : View K) → IsPage v.number (page_of v) → k ≡ tried v.shape v.number n → AddsSoFar v m n some_held → AddsAt item k m w FullVisit → AddsSoFar v w (suc n) some_held
-  adds_full item k n some_held v m w own at so_far (here, roams, left, found, counts) =
-      let same = so_far.passes.same in
-      let all = roams_after v m w so_far.words here so_far.passes roams in
-      let left' : HasLeft v.shape.room (tried v.shape v.number n) here = subst (λ x. HasLeft v.shape.room x here) at (subst (λ x. HasLeft x.room k here) same.shape left) in record {
-        words = so_far.words ++ here;
-        passes = passes_of v w (so_far.words ++ here) all;
-        roams = λ some. all;
-        visits = (so_far.words, here, refl, so_far.visits, inr left');
-        held = λ is. (some_later v.shape.callers v.number so_far.words here (so_far.held is).0, (so_far.held is).1);
-        full = λ is. (so_far.words, here, refl, so_far.full is, left');
-        still = roams_still v w (so_far.words ++ here) own all;
-        found = λ is j less.
-            let g : Found = record { segment = tried v.shape v.number j; length = v.shape.room } in
-            let f : Found = record { segment = k; length = m.shape.room } in
-            let f' : Found = record { segment = tried v.shape v.number n; length = v.shape.room } in
-            let last : f ≡ f' = ap₂ (λ a b. record { segment = a; length = b }) at (ap (λ x. x.room) same.shape) in
-            subst (λ l. Contains l g) (sym (found ∙ ap (λ x. x ∷ m.found) last))
-            (dite (ℕ_discrete j n)
-            (λ here'. subst (λ i. Contains (f' ∷ m.found) (record { segment = tried v.shape v.number i; length = v.shape.room })) (sym here') (zero, omega arith, refl))
-            (λ away. contains_cons f' g m.found (so_far.found is j (omega arith))));
-        counts = λ is some. counts;
-      }
-
-  pub adds_done : (item k n : ℕ) (some_held : Bool) (v m w : View K) → IsPage v.number (page_of v) → k ≡ tried v.shape v.number n → n < v.shape.segments → AddsSoFar v m n some_held → AddsAt item k m w Done → TriesAdd item v w (Ok tt)
-  adds_done item k n some_held v m w own at less so_far (found, acts, had) =
-      let acts' : Acts m w (Add item) Added (turn_read (tried v.shape v.number n) 0 ∷ count_read found ∷ []) = subst (λ x. Acts m w (Add item) Added (turn_read x 0 ∷ count_read found ∷ [])) at acts in record {
-        words = so_far.words ++ turn_read (tried v.shape v.number n) 0 ∷ count_read found ∷ [];
-        does = acts_after v m w (Add item) Added so_far.words (turn_read (tried v.shape v.number n) 0 ∷ count_read found ∷ []) own so_far.passes acts';
-        cause = (n, found, so_far.words, less, so_far.visits, refl);
-        not_alone = λ busy. absurd busy;
-        full_alone = λ one. ((λ is. absurd (cc is)), λ counts. absurd (had_room v m so_far.passes.same.shape so_far.still had one counts));
-      }
-
-  pub adds_no_memory : (item k n : ℕ) (some_held : Bool) (v m w : View K) → k ≡ tried v.shape v.number n → n < v.shape.segments → AddsSoFar v m n some_held → AddsAt item k m w NoMemory → TriesAdd item v w (Err OutOfMemory)
-  adds_no_memory item k n some_held v m w at less so_far (here, roams, (count, room, left), had) =
-      let same = so_far.passes.same in
-      let left' : HasLeft count (tried v.shape v.number n) here = subst (λ x. HasLeft count x here) at left in record {
-        words = so_far.words ++ here;
-        does = roams_after v m w so_far.words here so_far.passes roams;
-        cause = (n, count, so_far.words, less, so_far.visits, subst (λ x. count < x.room) same.shape room, ap (λ l. so_far.words ++ l) left');
-        not_alone = λ busy. absurd busy;
-        full_alone = λ one. ((λ is. absurd (cc is)), λ counts. absurd (had_room v m same.shape so_far.still had one counts));
-      }
-
-  pub adds_busy : (item n : ℕ) (some_held : Bool) (v w : View K) → n ≡ v.shape.segments → n ≢ 0 → AddsSoFar v w n some_held → some_held ≡ true → TriesAdd item v w (Err BusyAdd)
-  adds_busy item n some_held v w all some so_far is = record {
-    words = so_far.words;
-    does = so_far.roams some;
-    cause = (subst (λ x. Visits (FindsNoRoom v.shape v.number) (tried v.shape v.number) x so_far.words) all so_far.visits, (so_far.held is).0);
-    not_alone = λ busy. (so_far.held is).1;
-    full_alone = λ one. absurd ((so_far.held is).1 one);
-  }
-
-  pub adds_nowhere : (item n : ℕ) (some_held : Bool) (v w : View K) → IsShape v.shape → n ≡ v.shape.segments → n ≢ 0 → AddsSoFar v w n some_held → some_held ≡ false → TriesAdd item v w (Err Full)
-  adds_nowhere item n some_held v w shaped all some so_far is = record {
-    words = so_far.words;
-    does = so_far.roams some;
-    cause = subst (λ x. Visits (HasLeft v.shape.room) (tried v.shape v.number) x so_far.words) all (so_far.full is);
-    not_alone = λ busy. absurd busy;
-    full_alone = λ one. (
-      (λ full.
-          let same = so_far.passes.same in
-          let all_full : FoundAllFull w = λ k within own.
-          let own' : IsOwn v.shape v.number k = subst (λ c. IsOwn v.shape c k) same.number (subst (λ x. IsOwn x w.number k) same.shape own) in
-          let place = own_tried v.shape v.number k shaped own' in
-          let there : Contains w.found (record { segment = k; length = v.shape.room }) = subst (λ x. Contains w.found (record { segment = x; length = v.shape.room })) place.2 (so_far.found is place.0 (let less = place.1 in omega arith)) in
-          subst (λ x. Contains w.found (record { segment = k; length = x.room })) (sym same.shape) there in
-          subst (λ x. Counts w.seen (locale_room x)) same.shape (so_far.counts is some (ap (λ x. x.callers) same.shape ∙ one) all_full)),
-      λ counts. refl,
-    );
-  }
-
-  -- the visits of a removal so far
-  pub record SweepsSoFar (v w : View K) (n : ℕ) : Type 0 where
-    pub words : Looks
-    pub passes : Passes v w words
-    pub roams : n ≢ 0 → Roams v w words
-    pub visits : Visits (FindsNothing v.shape v.number) (tried v.shape v.number) n words
-    pub alone : v.shape.callers ≡ 1 → (j : ℕ) → j < n → Contains w.found (record { segment = tried v.shape v.number j; length = 0 })
-
-  pub sweeps_none : (v : View K) → IsPage v.number (page_of v) → SweepsSoFar v v 0
-  sweeps_none v own = record { words = []; passes = passes_none v own; roams = λ some. absurd (some refl); visits = refl; alone = λ one j less. absurd (omega arith) }
-
-  pub sweeps_held : (keeps : K → ℕ → Type 0) (k n : ℕ) (v m w : View K) → k ≡ tried v.shape v.number n → SweepsSoFar v m n → TakesAt keeps k m w HeldTake → SweepsSoFar v w (suc n)
-  sweeps_held keeps k n v m w at so_far (here, roams, held, not_alone) =
-      let same = so_far.passes.same in
-      let all = roams_after v m w so_far.words here so_far.passes roams in
-      let held' : IsHeld v.shape.callers v.number (tried v.shape v.number n) here = held_as v m k (tried v.shape v.number n) here same.shape same.number at held in record {
-        words = so_far.words ++ here;
-        passes = passes_of v w (so_far.words ++ here) all;
-        roams = λ some. all;
-        visits = (so_far.words, here, refl, so_far.visits, inl held');
-        alone = λ one j less. absurd (not_alone (ap (λ x. x.callers) same.shape ∙ one));
-      }
-
-  pub sweeps_empty : (keeps : K → ℕ → Type 0) (k n : ℕ) (v m w : View K) → k ≡ tried v.shape v.number n → SweepsSoFar v m n → TakesAt keeps k m w EmptyVisit → SweepsSoFar v w (suc n)
-  sweeps_empty keeps k n v m w at so_far (here, roams, left, found) =
-      let all = roams_after v m w so_far.words here so_far.passes roams in
-      let left' : HasLeft 0 (tried v.shape v.number n) here = subst (λ x. HasLeft 0 x here) at left in
-      let f : Found = record { segment = k; length = 0 } in record {
-        words = so_far.words ++ here;
-        passes = passes_of v w (so_far.words ++ here) all;
-        roams = λ some. all;
-        visits = (so_far.words, here, refl, so_far.visits, inr left');
-        alone = λ one j less.
-            let g : Found = record { segment = tried v.shape v.number j; length = 0 } in
-            subst (λ l. Contains l g) (sym found)
-            (dite (ℕ_discrete j n)
-            (λ last. subst (λ x. Contains (f ∷ m.found) (record { segment = x; length = 0 })) (at ∙ ap (tried v.shape v.number) (sym last)) (zero, omega arith, refl))
-            (λ away. contains_cons f g m.found (so_far.alone one j (omega arith))));
-      }
-
-  pub sweeps_found : (keeps : K → ℕ → Type 0) (item k n : ℕ) (v m w : View K) → IsPage v.number (page_of v) → k ≡ tried v.shape v.number n → n < all_segments v.shape → SweepsSoFar v m n → TakesAt keeps k m w (FoundItem item) → Sweeps keeps v w (Some item)
-  sweeps_found keeps item k n v m w own at less so_far (found, acts, kept) =
-      let acts' : Acts m w Remove (Took item) (turn_read (tried v.shape v.number n) 0 ∷ count_read found ∷ []) = subst (λ x. Acts m w Remove (Took item) (turn_read x 0 ∷ count_read found ∷ [])) at acts in (
-        n,
-        found,
-        so_far.words,
-        less,
-        so_far.visits,
-        acts_after v m w Remove (Took item) so_far.words (turn_read (tried v.shape v.number n) 0 ∷ count_read found ∷ []) own so_far.passes acts',
-        subst (λ o. IfSome o (λ q. keeps q item)) so_far.passes.same.keeper kept,
+      pub takes_nothing : (kept : Option Kept) → items ≡ [] → TakesAt keeps plan segment kept kept m.0 n.0 Empty
+      takes_nothing kept none = (
+        turn_read segment 0 ∷ length_read segment 0 ∷ [],
+        left_goes 0 (ap length none),
+        inl (refl, refl, left.found ∙ ap₂ (λ c l. found_with segment c ∷ l) (ap length none) got.found),
       )
 
-  -- a removal has visited all segments
-  pub sweeps_all : (keeps : K → ℕ → Type 0) (n : ℕ) (v w : View K) → IsShape v.shape → n ≡ all_segments v.shape → n ≢ 0 → SweepsSoFar v w n → Sweeps keeps v w None
-  sweeps_all keeps n v w is all some so_far = (
-    so_far.words,
-    subst (λ x. Visits (FindsNothing v.shape v.number) (tried v.shape v.number) x so_far.words) all so_far.visits,
-    so_far.roams some,
-    λ one k within.
-        let within' : k < all_segments v.shape = subst (λ x. k < all_segments x) so_far.passes.same.shape within in
-        let place = tried_all v.shape v.number k is within' in
-        subst (λ x. Contains w.found (record { segment = x; length = 0 })) place.2 (so_far.alone one place.0 (subst (λ x. place.0 < x) (sym all) place.1)),
-  )
+    pub adds_done : (item found : ℕ) (items : List ℕ) (l n : BagMe K) → IsOwn plan.shape m.0.number segment → length a.items < plan.shape.room → Does keeps plan (Put item) k found l → LeavesChanged keeps plan segment items l n
+        → AddsAt keeps plan item segment m.0 n.0 Done
+    adds_done item found items l n own less put left = (
+      found,
+      goes_still (bag_terms keeps) BagOpens BagStep plan m.0 l.0 n.0 _ _
+          (goes_then (bag_terms keeps) BagOpens BagStep plan m.0 k.0 l.0 (turn_read segment 0 ∷ []) (count_read found ∷ []) (entry m.0.number (Add item) Added ∷ []) got.goes
+          (subst (λ c. BagGoes keeps plan k.0 l.0 (count_read found ∷ []) (entry c (Add item) Added ∷ [])) same_number put.1.0)) left.stays,
+      had_room own less,
+    )
+
+    -- an item was taken
+    pub takes_item : (item : ℕ) (left : List ℕ) (held held' : List Holding) (kept kept' : Option Kept) (l n : BagMe K) → TakesHere keeps plan item a.items left held held' k l → LeavesChanged keeps plan segment left l n
+        → TakesAt keeps plan segment kept kept' m.0 n.0 (FoundItem item)
+    takes_item item left held held' kept kept' l n takes leaves = (
+      takes.count,
+      goes_still (bag_terms keeps) BagOpens BagStep plan m.0 l.0 n.0 _ _
+          (goes_then (bag_terms keeps) BagOpens BagStep plan m.0 k.0 l.0 (turn_read segment 0 ∷ []) (count_read takes.count ∷ []) (entry m.0.number Remove (Took item) ∷ []) got.goes
+          (subst (λ c. BagGoes keeps plan k.0 l.0 (count_read takes.count ∷ []) (entry c Remove (Took item) ∷ [])) same_number takes.goes)) leaves.stays,
+      takes.is_kept,
+    )
+
+    -- what was kept still is, where the segment was left
+    pub still_keeping : (kept : Option Kept) (items : List ℕ) (n : BagMe K) → items ≡ a.items → LeavesFound keeps plan segment items k n → IsKeeping plan.shape kept m → IsKeeping plan.shape kept n
+    still_keeping kept items n same left keeping =
+        let number : n.0.number ≡ m.0.number = left.goes.same.number ∙ same_number in (
+          (left.holds (held_of kept) (slots_of kept) (got_holds items (held_of kept) (slots_of kept) same keeping.0.0), keeping.0.1),
+          subst (λ c. IsEmptyOwn plan.shape c kept) (sym number) keeping.1,
+        )
+
+    -- the segment itself is kept
+    pub now_keeping : (items : List ℕ) (own : Kept) → items ≡ a.items → own.segment ≡ segment → own.moved.items ≡ items → items ≡ [] → segment < all_segments plan.shape → IsOwn plan.shape m.0.number segment → IsHolding m [] []
+        → IsKeeping plan.shape (Some own) k
+    now_keeping items own same named moved none within is_own rests = (
+      (subst (λ s. IsHolding k (holding s own.moved.items ∷ []) ((slot_place s, None) ∷ [])) (sym named) (got_holds own.moved.items [] [] (moved ∙ same) rests), subst (λ s. s < all_segments plan.shape) (sym named) within),
+      (moved ∙ none, subst (λ s. IsOwn plan.shape k.0.number s) (sym named) (subst (λ c. IsOwn plan.shape c segment) (sym same_number) is_own)),
+    )

@@ -1,34 +1,21 @@
 -- What a bag's history leaves, and how many items that is.
 use Rattle.std.specs.Prelude.{◌≡◌, ℕ, zero, suc, ◌≤◌, List, [], ◌++◌, length}
 use Rattle.pass_book.specs.declared.entries.Entry.{Entry}
-use Rattle.pass_book.specs.Histories.{Leaves, IsLegal}
-use Rattle.pass_book.specs.Pages.{Page, Enters, EntersNothing}
+use Rattle.pass_book.specs.Histories.{Leaves}
 use Rattle.seq_objects.specs.declared.bags.BagCall.{BagCall}
 use Rattle.seq_objects.specs.declared.bags.BagCall.TheVariants.{Add, Remove}
 use Rattle.seq_objects.specs.declared.bags.BagReply.{BagReply}
 use Rattle.seq_objects.specs.BagSteps.{BagStep}
 use Rattle.seq_objects.specs.Meanings.{BagOpens}
+use Rattle.shared_bag.specs.declared.layout.Word.{Word}
+use Rattle.shared_bag.specs.declared.layout.Word.TheVariants.{Count, Turn, Length}
 
 abbrev pub BagEntry : Type 0
 BagEntry = Entry BagCall BagReply
 
-abbrev pub BagPage : Type 0
-BagPage = Page BagCall BagReply
-
-abbrev pub IsLegalBag : List BagEntry → Type 0
-IsLegalBag h = IsLegal BagOpens BagStep [] h
-
 -- the history leaves these items
 abbrev pub LeavesItems : List BagEntry → List ℕ → Type 0
 LeavesItems h items = Leaves BagOpens BagStep [] h items
-
--- a call with an entry, behind which nothing stands
-abbrev pub EntersBag : ℕ → BagPage → BagPage → BagCall → BagReply → Type 0
-EntersBag caller old new call reply = Enters BagOpens BagStep [] caller old new call reply
-
--- a call without an entry
-abbrev pub EntersNoBag : ℕ → BagPage → BagPage → Type 0
-EntersNoBag caller old new = EntersNothing BagOpens BagStep [] caller old new
 
 -- the history leaves so many items
 abbrev pub Counts : List BagEntry → ℕ → Type 0
@@ -38,9 +25,11 @@ Counts h n = (items : List ℕ) × LeavesItems h items × (length items ≡ n)
 abbrev pub CountsAtLeast : List BagEntry → ℕ → Type 0
 CountsAtLeast h n = (items : List ℕ) × LeavesItems h items × (n ≤ length items)
 
--- the history leaves at most so many items
-abbrev pub CountsAtMost : List BagEntry → ℕ → Type 0
-CountsAtMost h n = (items : List ℕ) × LeavesItems h items × (length items ≤ n)
+-- What a word that was read says of the history at that moment: the count is the number of its items, and no segment has more
+abbrev pub Shows : List BagEntry → Word → ℕ → Type 0
+Shows h Count word = Counts h word
+Shows h (Turn segment) word = Unit {0}
+Shows h (Length segment) word = CountsAtLeast h word
 
 -- the items of the first n segments
 abbrev pub items_of : (ℕ → List ℕ) → ℕ → List ℕ

@@ -1,6 +1,5 @@
--- The numbers of a bag: its shape, where its words stand, and the order in which a caller tries the segments.
--- Word 0 is the count. Then each segment has its turn. The segments are numbered by locale, and each stands in the slot of its number.
-use Rattle.std.specs.Prelude.{◌≡◌, ℕ, ◌+◌, ◌-◌, ◌*◌, ◌/◌, ◌%◌, ◌≤◌, List, slice_index}
+-- The numbers of a bag: its shape, and the order in which a caller tries the segments. These are numbered by locale, and each stands in the slot of its number.
+use Rattle.std.specs.Prelude.{◌≡◌, ℕ, ◌+◌, ◌*◌, ◌/◌, ◌%◌, ◌≤◌}
 use Rattle.shared_bag.specs.declared.shapes.Shape.{Shape}
 
 -- a number in a range, its ends included
@@ -25,17 +24,6 @@ locale_room shape = shape.segments * shape.room
 -- the segment is one of the caller's locale
 abbrev pub IsOwn : Shape → ℕ → ℕ → Type 0
 IsOwn shape caller segment = segment / shape.segments ≡ caller % shape.locales
-
--- each turn stands eight words, a cache line, behind the one before
-abbrev pub turn_place : ℕ → ℕ
-turn_place segment = 8 * segment + 8
-
--- the segment whose turn stands at this place
-abbrev pub segment_at : ℕ → ℕ
-segment_at place = place / 8 - 1
-
-abbrev pub turn_in : List ℕ → ℕ → ℕ
-turn_in words segment = slice_index words (turn_place segment)
 
 -- the locale of the segment that a caller tries after so many others: its own first, and then the others by rising number, round from its own
 abbrev pub tried_locale : Shape → ℕ → ℕ → ℕ

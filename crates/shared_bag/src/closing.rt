@@ -1,17 +1,18 @@
 //! How a bag is closed.
-ghost use Rattle.std.specs.Prelude.{◌≡◌, ◌+◌, ◌*◌, ◌<◌, ◌≤◌, ◌++◌, [], length, All, IfOk, IfErr, IsPermutation, vec_len, vec_capacity};
+ghost use Rattle.std.specs.Prelude.{◌≡◌, ℕ, ◌+◌, ◌≤◌, ◌++◌, [], length, All, IfOk, IfErr, IsPermutation, vec_len, vec_capacity};
 ghost use Rattle.std.specs.Slots.{slots_items, slots_len, IsFull};
-ghost use Rattle.shared_bag.specs.declared.views.Role.TheVariants.{Caller};
-ghost use Rattle.shared_bag.specs.declared.views.Stage.TheVariants.{Idle};
-ghost use Rattle.shared_bag.specs.Counted.{CountsAtMost, items_of};
-ghost use Rattle.shared_bag.specs.Passes.{keeper_of, opening_of, page, pass_opening};
-ghost use Rattle.shared_bag.specs.Closings.{AreOfOpening, AreOfAllCallers, ClosesWith, Gathered, HasLooked, HaveLooked, stored};
+ghost use Rattle.pass_table.specs.Looks.{HaveLooked};
+ghost use Rattle.pass_table.specs.Passes.{plan_of};
+ghost use Rattle.shared_bag.specs.Layout.{slots_in};
+ghost use Rattle.shared_bag.specs.Counted.{items_of};
+ghost use Rattle.shared_bag.specs.Rule.{bag_terms};
+ghost use Rattle.shared_bag.specs.Bags.{callers_of, keeper_of};
+ghost use Rattle.shared_bag.specs.Opened.{AreOfOpening};
+ghost use Rattle.shared_bag.specs.Closed.{ClosesWith, of_slot, stored};
 
-use crate::bags::Bag;
-use crate::passes::BagPass;
-use crate::plays::TakePass;
-use crate::views::{Law, Plan, View};
-use atomic_table::{Closed, Seat, Shared};
+use crate::bags::{Bag, BagPass};
+use crate::layout::{SLOTS, slots_for};
+use atomic_table::Closed;
 use segment_store::Segment;
 use seq_objects::Keeps;
 use std::alloc::Global;
@@ -30,32 +31,6 @@ pub struct BagBack<K: Keeps> {
     pub passes: Vec<BagPass<K>>,
 }
 
-// One seat, which has taken in the seats of all passes.
-fn gather<K: Keeps>(
-    shared: &Shared<Option<Segment>, View<K>, Plan<K>, Law<K>>,
-    mut passes: Vec<BagPass<K>>,
-) -> Seat<Option<Segment>, View<K>>
-    requires some { 0 < vec_len passes }
-    requires words { 0 < shared.now.table_id.words }
-    requires table { All (λ p. p.seat.table_id ≡ shared.now.table_id) passes.items }
-    ensures table { result.table_id ≡ shared.now.table_id }
-    ensures view { (result.me.0.role ≡ Caller) × (result.me.0.stage ≡ Idle) }
-    ensures gathered { All (λ p. Gathered result.me.0 p) passes.items }
-{
-    let Some(first) = passes.pop() else {
-        unreachable!()
-    };
-    let BagPass {
-        seat: mut all,
-        caller: _,
-    } = first;
-    while let Some(pass) = passes.pop() {
-        let BagPass { seat, caller: _ } = pass;
-        shared.join_seat::<TakePass>(&mut all, seat);
-    }
-    all
-}
-
 // Moves the items of a segment behind the others, the newest first.
 fn pour(mut moved: Segment, items: &mut Vec<u64>)
     requires room { vec_len items.old + length moved.items ≤ vec_capacity items.old }
@@ -67,18 +42,25 @@ fn pour(mut moved: Segment, items: &mut Vec<u64>)
     }
 }
 
+// What stood in a slot, unless it is one of the spare slots between two segments'.
+fn of_segment(slot: usize, taken: Option<Segment>) -> Option<Segment>
+    ensures { result ≡ of_slot slot taken }
+{
+    if slot % SLOTS == 0 { taken } else { None }
+}
+
 // The items of all segments.
 fn read_segments(
     mut closed: Closed<Option<Segment>, Global>,
     segments: u32,
     mut items: Vec<u64>,
 ) -> Vec<u64>
-    requires slots { IsFull closed.slots × (slots_len closed.slots ≡ segments) }
+    requires slots { IsFull closed.slots × (slots_len closed.slots ≡ slots_in segments) }
     requires room { (items.items ≡ []) × (vec_len items ≡ 0) × (length (items_of (stored (slots_items closed.slots)) segments) ≤ vec_capacity items) }
     ensures { IsPermutation (items_of (stored (slots_items closed.slots)) segments) result.items }
 {
-    for segment in 0..segments {
-        if let Some(moved) = closed.take(segment as usize) {
+    for slot in 0..slots_for(segments) {
+        if let Some(moved) = of_segment(slot, closed.take(slot)) {
             pour(moved, &mut items);
         }
     }
@@ -87,40 +69,19 @@ fn read_segments(
 }
 
 impl<K: Keeps> Bag<K> {
-    // Loads the count with one pass.
-    fn look_with(&self, pass: &mut BagPass<K>) -> u64
-        requires { pass_opening pass.old ≡ opening_of self.now }
-        ensures { HasLooked pass.old pass.new result }
-    {
-        self.read_count(&mut pass.seat)
-    }
-
-    // Loads the count with each pass, and gives the greatest that was read. The caller of the last entry
-    // of all can't have read less than the bag has.
-    fn most_items(&self, passes: &mut [BagPass<K>]) -> u64
-        requires { AreOfOpening self.now passes.old }
-        ensures looked { HaveLooked passes.old passes.new }
-        ensures most { All (λ p. CountsAtMost (page p).seen result) passes.new }
-    {
-        let mut most = 0;
-        for pass in passes.iter_mut() {
-            most = most.max(self.look_with(pass));
-        }
-        most
-    }
-
-    /// Closes the bag, with the passes of all its callers, and gives what it holds. It first looks at the
-    /// count with each pass, and takes memory for that many items. Where there is none, the bag and the
-    /// passes come back.
+    /// Closes the bag, with as many passes of its opening as it has callers, and gives what it holds. It first looks at the
+    /// count with each pass, and takes memory for as many items as there are. Where there is none, the bag
+    /// and the passes come back.
     pub fn close(self, mut passes: Vec<BagPass<K>>) -> Result<ClosedBag, BagBack<K>>
         requires opening { AreOfOpening self passes.items }
-        requires all { AreOfAllCallers self passes.items }
+        requires count { length passes.items ≡ callers_of self }
         ensures ok { IfOk result (λ closed. ClosesWith self passes.items (K.keeps (keeper_of self)) closed.items.items) }
-        ensures err { IfErr result (λ back. (back.bag ≡ self) × HaveLooked passes.items back.passes.items) }
-        ensures again { IfErr result (λ back. AreOfOpening back.bag back.passes.items × AreOfAllCallers back.bag back.passes.items) }
+        ensures kept { IfOk result (λ closed. All (K.keeps (keeper_of self)) closed.items.items) }
+        ensures err { IfErr result (λ back. (back.bag ≡ self) × ((most : ℕ) × HaveLooked (bag_terms K.keeps) (plan_of self.table) most passes.items back.passes.items)) }
+        ensures again { IfErr result (λ back. AreOfOpening back.bag back.passes.items × (length back.passes.items ≡ callers_of back.bag)) }
     {
         let segments = self.shape.all_segments();
-        let most = self.most_items(passes.as_mut_slice());
+        let most = self.table.most_items(passes.as_mut_slice());
         let Ok(items) = Vec::with_capacity(self.alloc, most as usize) else {
             return Err(BagBack { bag: self, passes });
         };
@@ -129,8 +90,7 @@ impl<K: Keeps> Bag<K> {
             shape: _,
             alloc: _,
         } = self;
-        let seat = gather(&table.shared, passes);
-        let closed = table.close_with(seat);
+        let closed = table.close(passes);
         let items = read_segments(closed, segments, items);
         Ok(ClosedBag { items })
     }

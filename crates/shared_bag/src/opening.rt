@@ -1,60 +1,58 @@
 //! How a bag is opened.
-ghost use Rattle.std.specs.Prelude.{◌≡◌, ◌↔◌, ◌*◌, ◌+◌, ◌^◌, ◌<◌, ◌≤◌, ℕ, [], length, IfOk, IsErrOf, Some, replicate, vec_len, vec_capacity};
+ghost use Rattle.std.specs.Prelude.{◌≡◌, ◌↔◌, ◌≤◌, [], IfOk, IsErrOf, Some, replicate};
 ghost use Rattle.segment_store.specs.Contents.{Contents};
-ghost use Rattle.shared_bag.specs.Shapes.{IsIn, IsShape, all_segments};
-ghost use Rattle.shared_bag.specs.Passes.{callers_of};
-ghost use Rattle.shared_bag.specs.Openings.{IsNewPass, ArePassesOf, IsOpened, opener_of};
+ghost use Rattle.shared_bag.specs.Layout.{slots_in, words_of};
+ghost use Rattle.shared_bag.specs.Shapes.{IsIn, IsShape};
+ghost use Rattle.shared_bag.specs.Opened.{IsOpenedWith};
 
-use crate::bags::Bag;
+use crate::bags::{Bag, BagPass};
+use crate::clients::Plan;
 use crate::faults::BagFault;
-use crate::passes::BagPass;
-use crate::plays::NextPass;
+use crate::layout::{slots_for, words_for};
 use crate::shapes::Shape;
-use crate::views::{Law, Plan, View};
-use atomic_table::{Seat, Table};
+use pass_table::PassTable;
 use segment_store::Segment;
-use seq_objects::Keeps;
+use seq_objects::{Keeps, MOST_CALLERS, MOST_LOCALES, MOST_ROOM, MOST_SEGMENTS};
 use std::alloc::{AllocError, Global};
 
-type BagTable<K> = Table<Option<Segment>, View<K>, Plan<K>, Law<K>, Global>;
-
 fn check(shape: Shape) -> Result<(), BagFault>
-    ensures locales { IsErrOf result BagFault.Locales ↔ (¬ IsIn 1 16 shape.locales) }
-    ensures segments { IsErrOf result BagFault.Segments ↔ (IsIn 1 16 shape.locales × (¬ IsIn 1 64 shape.segments)) }
-    ensures room { IsErrOf result BagFault.Room ↔ (IsIn 1 16 shape.locales × IsIn 1 64 shape.segments × (¬ IsIn 1 (2 ^ 24) shape.room)) }
-    ensures callers { IsErrOf result BagFault.Callers ↔ (IsIn 1 16 shape.locales × IsIn 1 64 shape.segments × IsIn 1 (2 ^ 24) shape.room × (¬ IsIn 1 1024 shape.callers)) }
+    ensures locales { IsErrOf result BagFault.Locales ↔ (¬ IsIn 1 MOST_LOCALES shape.locales) }
+    ensures segments { IsErrOf result BagFault.Segments ↔ (IsIn 1 MOST_LOCALES shape.locales × (¬ IsIn 1 MOST_SEGMENTS shape.segments)) }
+    ensures room { IsErrOf result BagFault.Room ↔ (IsIn 1 MOST_LOCALES shape.locales × IsIn 1 MOST_SEGMENTS shape.segments × (¬ IsIn 1 MOST_ROOM shape.room)) }
+    ensures callers { IsErrOf result BagFault.Callers ↔ (IsIn 1 MOST_LOCALES shape.locales × IsIn 1 MOST_SEGMENTS shape.segments × IsIn 1 MOST_ROOM shape.room × (¬ IsIn 1 MOST_CALLERS shape.callers)) }
     ensures memory { ¬ IsErrOf result BagFault.OutOfMemory }
     ensures ok { IfOk result (λ _. IsShape shape) }
 {
-    if shape.locales < 1 || shape.locales > 16 {
+    if !(1..=u32::from(MOST_LOCALES)).contains(&shape.locales) {
         return Err(BagFault::Locales);
     }
-    if shape.segments < 1 || shape.segments > 64 {
+    if !(1..=MOST_SEGMENTS).contains(&shape.segments) {
         return Err(BagFault::Segments);
     }
-    if shape.room < 1 || shape.room > 1 << 24 {
+    if !(1..=MOST_ROOM).contains(&shape.room) {
         return Err(BagFault::Room);
     }
-    if shape.callers < 1 || shape.callers > 1024 {
+    if !(1..=MOST_CALLERS).contains(&shape.callers) {
         return Err(BagFault::Callers);
     }
     Ok(())
 }
 
-// The words of a new bag, all 0: the count, and every eighth word behind it the turn of a segment.
+// The words of a new bag, all 0: the count, and a turn for each segment.
 fn new_words(alloc: Global, segments: u32) -> Result<Vec<u64>, AllocError>
     requires { segments ≤ 1024 }
-    ensures { IfOk result (λ v. v.items ≡ replicate (8 * segments + 1) 0) }
+    ensures { IfOk result (λ v. v.items ≡ replicate (words_of segments) 0) }
 {
-    Vec::from_elem(alloc, 0u64, 8 * segments as usize + 1)
+    Vec::from_elem(alloc, 0u64, words_for(segments))
 }
 
 // The slots of a new bag, each with an empty segment.
 fn new_slots(alloc: Global, segments: u32) -> Result<Vec<Option<Segment>>, AllocError>
-    ensures { IfOk result (λ v. v.items ≡ replicate segments (Some (record { items = []; spare = 0 }))) }
+    ensures { IfOk result (λ v. v.items ≡ replicate (slots_in segments) (Some (record { items = []; spare = 0 }))) }
 {
-    let mut slots = Vec::with_capacity(alloc, segments as usize)?;
-    for _ in 0..segments {
+    let count = slots_for(segments);
+    let mut slots = Vec::with_capacity(alloc, count)?;
+    for _ in 0..count {
         slots.push_reserved(Some(Segment::new(alloc)));
     }
     Ok(slots)
@@ -72,11 +70,11 @@ impl<K: Keeps> Bag<K> {
         callers: u32,
         keeps: K,
     ) -> Result<(Bag<K>, Vec<BagPass<K>>), BagFault>
-        ensures locales { IsErrOf result BagFault.Locales ↔ (¬ IsIn 1 16 locales) }
-        ensures segments { IsErrOf result BagFault.Segments ↔ (IsIn 1 16 locales × (¬ IsIn 1 64 segments)) }
-        ensures room { IsErrOf result BagFault.Room ↔ (IsIn 1 16 locales × IsIn 1 64 segments × (¬ IsIn 1 (2 ^ 24) room)) }
-        ensures callers { IsErrOf result BagFault.Callers ↔ (IsIn 1 16 locales × IsIn 1 64 segments × IsIn 1 (2 ^ 24) room × (¬ IsIn 1 1024 callers)) }
-        ensures ok { IfOk result (λ r. IsOpened (record { locales = locales; segments = segments; room = room; callers = callers }) keeps r.0 r.1.items) }
+        ensures locales { IsErrOf result BagFault.Locales ↔ (¬ IsIn 1 MOST_LOCALES locales) }
+        ensures segments { IsErrOf result BagFault.Segments ↔ (IsIn 1 MOST_LOCALES locales × (¬ IsIn 1 MOST_SEGMENTS segments)) }
+        ensures room { IsErrOf result BagFault.Room ↔ (IsIn 1 MOST_LOCALES locales × IsIn 1 MOST_SEGMENTS segments × (¬ IsIn 1 MOST_ROOM room)) }
+        ensures callers { IsErrOf result BagFault.Callers ↔ (IsIn 1 MOST_LOCALES locales × IsIn 1 MOST_SEGMENTS segments × IsIn 1 MOST_ROOM room × (¬ IsIn 1 MOST_CALLERS callers)) }
+        ensures ok { IfOk result (λ r. IsOpenedWith (record { locales = locales; segments = segments; room = room; callers = callers }) keeps r.0 r.1.items) }
     {
         let shape = Shape {
             locales: u32::from(locales),
@@ -93,56 +91,32 @@ impl<K: Keeps> Bag<K> {
         }
     }
 
-    // The memory for the passes, the words and the slots is there before the first pass is made.
     fn of_shape(
         alloc: Global,
         shape: Shape,
         keeps: K,
     ) -> Result<(Bag<K>, Vec<BagPass<K>>), AllocError>
         requires { IsShape shape }
-        ensures { IfOk result (λ r. IsOpened shape keeps r.0 r.1.items) }
+        ensures { IfOk result (λ r. IsOpenedWith shape keeps r.0 r.1.items) }
     {
-        let mut passes = Vec::with_capacity(alloc, shape.callers as usize)?;
         let words = new_words(alloc, shape.all_segments())?;
         let slots = new_slots(alloc, shape.all_segments())?;
         let plan = Plan {
             shape,
             keeper: keeps,
         };
-        let (table, opener): (BagTable<K>, Seat<Option<Segment>, View<K>>) = match Table::new(
+        let (table, passes) = PassTable::open(
             alloc,
             words.as_slice(),
             slots,
             &plan,
-        ) {
-            Ok(made) => made,
-            Err(_) => return Err(AllocError),
-        };
+            shape.callers,
+        )?;
         let bag = Bag {
             table,
             shape,
             alloc,
         };
-        bag.make_passes(opener, shape.callers, &mut passes);
         Ok((bag, passes))
-    }
-
-    fn make_passes(
-        &self,
-        mut opener: Seat<Option<Segment>, View<K>>,
-        callers: u32,
-        passes: &mut Vec<BagPass<K>>,
-    )
-        requires table { (opener.table_id ≡ self.now.table.shared.table_id) × (opener.id ≡ 0) }
-        requires view { opener.me ≡ (opener_of self.now, []) }
-        requires callers { callers ≡ callers_of self.now }
-        requires room { (passes.old.items ≡ []) × (vec_len passes.old ≡ 0) × (vec_capacity passes.old ≡ callers) }
-        ensures count { length passes.new.items ≡ callers }
-        ensures each { ArePassesOf self.now passes.new.items }
-    {
-        for caller in 0..callers {
-            let seat = self.table.shared.split_seat::<NextPass>(&mut opener);
-            passes.push_reserved(BagPass { seat, caller });
-        }
     }
 }

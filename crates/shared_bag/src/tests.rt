@@ -1,11 +1,11 @@
 ghost use Rattle.std.specs.Prelude.{◌≡◌, ◌≤◌, ◌+◌, [], All, length, IfOk, IfSome, vec_capacity, vec_len};
-ghost use Rattle.shared_bag.specs.Passes.{pass_opening, opening_of, callers_of, caller_of};
-ghost use Rattle.shared_bag.specs.Calls.{IsSamePass};
-ghost use Rattle.shared_bag.specs.Openings.{IsNewPass, ArePassesOf};
-ghost use Rattle.shared_bag.specs.Closings.{AreOfAllCallers, AreOfOpening};
+ghost use mathlib.Core.List.{IsPrefix};
+ghost use Rattle.pass_table.specs.Passes.{IsSamePass, page, pass_opening};
+ghost use Rattle.shared_bag.specs.Bags.{callers_of, opening_of};
+ghost use Rattle.shared_bag.specs.Opened.{IsNewPass, ArePassesOf, AreOfOpening};
 
 use super::*;
-use seq_objects::AnyItem;
+use seq_objects::{AnyItem, Keeps};
 use std::alloc::{AllocError, Global};
 use std::sync::Wait;
 use std::test::Fail;
@@ -93,7 +93,7 @@ fn work_all<R: Threads + Wait + Sync>(rt: &R, bag: &Bag<AnyItem>, workers: &mut 
 }
 
 // The last of the passes.
-fn take_pass(bag: &Bag<AnyItem>, passes: &mut Vec<BagPass<AnyItem>>) -> Option<BagPass<AnyItem>>
+fn take_pass<K: Keeps>(bag: &Bag<K>, passes: &mut Vec<BagPass<K>>) -> Option<BagPass<K>>
     requires { ArePassesOf bag.now passes.old.items }
     ensures rest { ArePassesOf bag.now passes.new.items }
     ensures pass { IfSome result (λ p. IsNewPass bag.now (length passes.new.items) p) }
@@ -104,7 +104,7 @@ fn take_pass(bag: &Bag<AnyItem>, passes: &mut Vec<BagPass<AnyItem>>) -> Option<B
 
 fn close_alone(alloc: Global, bag: Bag<AnyItem>, pass: BagPass<AnyItem>) -> Result<Vec<u64>, Fail>
     requires opening { pass_opening pass ≡ opening_of bag }
-    requires alone { (callers_of bag ≡ 1) × (caller_of pass ≡ 0) }
+    requires alone { callers_of bag ≡ 1 }
 {
     let mut passes = match Vec::with_capacity(alloc, 1) {
         Ok(passes) => passes,
@@ -120,7 +120,7 @@ fn close_alone(alloc: Global, bag: Bag<AnyItem>, pass: BagPass<AnyItem>) -> Resu
 // Closes a bag that came back for want of memory.
 fn close_again(back: BagBack<AnyItem>) -> Result<Vec<u64>, Fail>
     requires opening { AreOfOpening back.bag back.passes.items }
-    requires all { AreOfAllCallers back.bag back.passes.items }
+    requires count { length back.passes.items ≡ callers_of back.bag }
 {
     let BagBack { bag, passes } = back;
     match bag.close(passes) {
@@ -129,12 +129,11 @@ fn close_again(back: BagBack<AnyItem>) -> Result<Vec<u64>, Fail>
     }
 }
 
-// Each caller with its pass: the first ones add, the others remove.
+// Each caller with its pass: those with even numbers add, the others remove.
 fn workers_of(
     alloc: Global,
     bag: &Bag<AnyItem>,
     mut passes: Vec<BagPass<AnyItem>>,
-    adders: u32,
     each: u64,
 ) -> Result<Vec<Worker>, Fail>
     requires { ArePassesOf bag.now passes.items }
@@ -142,7 +141,7 @@ fn workers_of(
 {
     let mut workers = Vec::new(alloc);
     while let Some(pass) = take_pass(bag, &mut passes) {
-        let adds_items = pass.caller() < adders;
+        let adds_items = pass.caller() % 2 == 0;
         let worker = Worker {
             pass,
             adds: if adds_items { each } else { 0 },
@@ -156,18 +155,16 @@ fn workers_of(
     Ok(workers)
 }
 
-// The adders and the removers of a bag, after their work: as many adders as removers, each with so many items.
+// The adders and the removers of a bag, after their work: two of each, each with so many items.
 fn after_work<R: Threads + Wait + Sync>(
     rt: &R,
     alloc: Global,
+    locales: u8,
     room: u32,
-    adders: u32,
     each: u64,
-) -> Result<Vec<Worker>, Fail>
-    requires { adders ≤ 512 }
-{
-    let (bag, passes) = Bag::open(alloc, 2, 2, room, 2 * adders, AnyItem)?;
-    let mut workers = workers_of(alloc, &bag, passes, adders, each)?;
+) -> Result<Vec<Worker>, Fail> {
+    let (bag, passes) = Bag::open(alloc, locales, 2, room, 4, AnyItem)?;
+    let mut workers = workers_of(alloc, &bag, passes, each)?;
     work_all(rt, &bag, workers.as_mut_slice());
     Ok(workers)
 }
@@ -183,11 +180,11 @@ fn all_removed(alloc: Global, workers: &[Worker]) -> Result<Vec<u64>, AllocError
 }
 
 // All items that are added, in order of their numbers.
-fn all_added(alloc: Global, adders: u64, each: u64) -> Result<Vec<u64>, AllocError> {
+fn all_added(alloc: Global, each: u64) -> Result<Vec<u64>, AllocError> {
     let mut all = Vec::new(alloc);
-    for adder in 0..adders {
+    for adder in [0, 2] {
         for number in 0..each {
-            all.push(adder.wrapping_mul(STRIDE).wrapping_add(number))?;
+            all.push((adder * STRIDE).wrapping_add(number))?;
         }
     }
     Ok(all)
@@ -216,7 +213,7 @@ fn alone(
     segments: u32,
     room: u32,
 ) -> Result<(Bag<AnyItem>, BagPass<AnyItem>), Fail>
-    ensures { IfOk result (λ r. (pass_opening r.1 ≡ opening_of r.0) × (callers_of r.0 ≡ 1) × (caller_of r.1 ≡ 0)) }
+    ensures { IfOk result (λ r. (pass_opening r.1 ≡ opening_of r.0) × (callers_of r.0 ≡ 1)) }
 {
     let (bag, mut passes) = open_again(alloc, locales, segments, room)?;
     let Some(pass) = passes.pop() else {
@@ -258,8 +255,10 @@ fn the_first_segment_with_items_gives_its_newest(rt: HostRuntime) -> Result<(), 
     assert_eq!(rt; add_again(&bag, &mut pass, 1), Ok(()));
     assert_eq!(rt; add_again(&bag, &mut pass, 2), Ok(()));
     assert_eq!(rt; add_again(&bag, &mut pass, 3), Ok(()));
+    assert_eq!(rt; add_again(&bag, &mut pass, 4), Ok(()));
     assert_eq!(rt; bag.try_remove(&mut pass), Ok(Some(2)));
     assert_eq!(rt; bag.try_remove(&mut pass), Ok(Some(1)));
+    assert_eq!(rt; bag.try_remove(&mut pass), Ok(Some(4)));
     assert_eq!(rt; bag.try_remove(&mut pass), Ok(Some(3)));
     assert_eq!(rt; bag.try_remove(&mut pass), Ok(None));
     Ok(())
@@ -310,15 +309,16 @@ fn a_bag_with_the_most_room_is_closed(rt: HostRuntime) -> Result<(), Fail> {
 
 #[test]
 fn each_item_is_taken_once(rt: HostRuntime) -> Result<(), Fail> {
-    let workers = after_work(&rt, rt.alloc(), 33, 2, 1000)?;
-    assert!(rt; all_removed(rt.alloc(), workers.as_slice())? == all_added(rt.alloc(), 2, 1000)?);
+    let workers = after_work(&rt, rt.alloc(), 3, 33, 1000)?;
+    assert!(rt; all_removed(rt.alloc(), workers.as_slice())? == all_added(rt.alloc(), 1000)?);
     Ok(())
 }
 
+// Both adders are of the one locale, and both removers of the other.
 #[test]
-fn a_remover_lives_from_another_locale(rt: HostRuntime) -> Result<(), Fail> {
-    let workers = after_work(&rt, rt.alloc(), 31, 1, 1000)?;
-    assert!(rt; all_removed(rt.alloc(), workers.as_slice())? == all_added(rt.alloc(), 1, 1000)?);
+fn removers_live_from_another_locale(rt: HostRuntime) -> Result<(), Fail> {
+    let workers = after_work(&rt, rt.alloc(), 2, 67, 1000)?;
+    assert!(rt; all_removed(rt.alloc(), workers.as_slice())? == all_added(rt.alloc(), 1000)?);
     Ok(())
 }
 
@@ -386,8 +386,8 @@ fn close_two(
     second: BagPass<AnyItem>,
 ) -> Result<Vec<u64>, Fail>
     requires two { callers_of bag ≡ 2 }
-    requires first { (pass_opening first ≡ opening_of bag) × (caller_of first ≡ 0) }
-    requires second { (pass_opening second ≡ opening_of bag) × (caller_of second ≡ 1) }
+    requires first { pass_opening first ≡ opening_of bag }
+    requires second { pass_opening second ≡ opening_of bag }
 {
     let mut passes = room_for_two(alloc)?;
     passes.push_reserved(first);
@@ -420,7 +420,7 @@ fn two_passes(
     locales: u8,
     room: u32,
 ) -> Result<(Bag<AnyItem>, BagPass<AnyItem>, BagPass<AnyItem>), Fail>
-    ensures { IfOk result (λ r. (callers_of r.0 ≡ 2) × ((pass_opening r.1 ≡ opening_of r.0) × (caller_of r.1 ≡ 0)) × ((pass_opening r.2 ≡ opening_of r.0) × (caller_of r.2 ≡ 1))) }
+    ensures { IfOk result (λ r. (callers_of r.0 ≡ 2) × (pass_opening r.1 ≡ opening_of r.0) × (pass_opening r.2 ≡ opening_of r.0)) }
 {
     let (bag, mut passes) = open_two(alloc, locales, room)?;
     let Some(second) = take_pass(&bag, &mut passes) else {
@@ -459,5 +459,87 @@ fn a_bag_of_two_callers_gives_what_both_added(rt: HostRuntime) -> Result<(), Fai
     let mut items = close_two(rt.alloc(), bag, first, second)?;
     items.sort_unstable();
     assert_eq!(rt; items.as_slice(), [8, 9].as_slice());
+    Ok(())
+}
+
+#[test]
+fn a_remover_takes_half_of_another_locales_items(rt: HostRuntime) -> Result<(), Fail> {
+    let (bag, mut first, mut second) = two_passes(rt.alloc(), 2, 8)?;
+    for item in 1..=4 {
+        assert_eq!(rt; add_waiting_again(&rt, &bag, &mut first, item), Ok(()));
+    }
+    for taken in [2, 1, 3] {
+        assert_eq!(rt; bag.remove(&rt, &mut second), Some(taken));
+    }
+    let items = close_two(rt.alloc(), bag, first, second)?;
+    assert_eq!(rt; items.as_slice(), [4].as_slice());
+    Ok(())
+}
+
+// Whatever allocation is refused, each item is had once.
+#[test]
+fn stealing_loses_nothing(rt: HostRuntime) -> Result<(), Fail> {
+    let (bag, mut first, mut second) = two_passes(rt.alloc(), 2, 70)?;
+    for item in 0..70 {
+        assert_eq!(rt; add_waiting_again(&rt, &bag, &mut first, item), Ok(()));
+    }
+    let mut sum = 0u64;
+    for _ in 0..69 {
+        let taken = bag.remove(&rt, &mut second).unwrap_or(1000);
+        sum = sum.wrapping_add(taken);
+    }
+    let mut items = close_two(rt.alloc(), bag, first, second)?;
+    let last = items.pop().unwrap_or(1000);
+    assert_eq!(rt; (items.len(), sum.wrapping_add(last)), (0, 2415));
+    Ok(())
+}
+
+// Keeps even items alone.
+#[derive(Clone, Copy)]
+struct Even;
+
+impl Keeps for Even {
+    ghost use Rattle.std.specs.Prelude.{◌≡◌, ◌%◌};
+
+    ghost keeps = { λ _ item. item % 2 ≡ 0 };
+}
+
+// Half of the newest item of a bag of even items, which has no rest.
+fn half_of_newest(bag: &Bag<Even>, pass: &mut BagPass<Even>) -> Option<u64>
+    requires { pass_opening pass.old ≡ opening_of bag.now }
+    ensures { IsSamePass pass.old pass.new }
+{
+    let Ok(Some(item)) = bag.try_remove(pass) else {
+        return None;
+    };
+    prove!(item % 2 == 0);
+    Some(item / 2)
+}
+
+// Makes the one caller see all that the other has seen.
+fn hand_on(bag: &Bag<Even>, giver: &mut BagPass<Even>, taker: &mut BagPass<Even>)
+    requires giver { pass_opening giver.old ≡ opening_of bag.now }
+    requires taker { pass_opening taker.old ≡ opening_of bag.now }
+    ensures giver { IsSamePass giver.old giver.new }
+    ensures taker { IsSamePass taker.old taker.new }
+    ensures after { IsPrefix (page giver.new).seen (page taker.new).seen }
+{
+    let note = bag.note(giver);
+    bag.learn(taker, note);
+}
+
+#[test]
+fn even_items_come_out_even(rt: HostRuntime) -> Result<(), Fail> {
+    let (bag, mut passes) = Bag::open(rt.alloc(), 1, 1, 2, 2, Even)?;
+    let Some(mut second) = take_pass(&bag, &mut passes) else {
+        return Err("there is no pass".into());
+    };
+    let Some(mut first) = take_pass(&bag, &mut passes) else {
+        return Err("there is no pass".into());
+    };
+    assert_eq!(rt; bag.try_add(&mut first, 8), Ok(()));
+    hand_on(&bag, &mut first, &mut second);
+    assert_eq!(rt; half_of_newest(&bag, &mut second), Some(4));
+    assert_eq!(rt; half_of_newest(&bag, &mut first), None);
     Ok(())
 }

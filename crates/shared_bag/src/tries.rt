@@ -1,46 +1,32 @@
 //! One try of each call: it makes each of its steps once and waits for nobody.
-ghost use Rattle.std.specs.Prelude.{◌≡◌, [], IfOk, IfSome};
-ghost use Rattle.pass_book.specs.Pages.{IsPage};
-ghost use Rattle.shared_bag.specs.declared.views.Stage.TheVariants.{Idle};
-ghost use Rattle.shared_bag.specs.Rule.{page_of};
-ghost use Rattle.shared_bag.specs.Visits.{Sweeps};
+ghost use Rattle.std.specs.Prelude.{◌≡◌, IfOk, IfSome};
+ghost use mathlib.Core.List.{IsPrefix};
+ghost use Rattle.pass_book.specs.Histories.{IsOfCallers};
+ghost use Rattle.pass_table.specs.Passes.{IsSeatOf, IsResting, IsSamePass, change, page, pass_opening, view_of, plan_of};
 ghost use Rattle.shared_bag.specs.Tries.{TriesAdd, TriesRemove};
-ghost use Rattle.shared_bag.specs.Passes.{IsSeatOf, opening_of, keeper_of, pass_opening};
-ghost use Rattle.shared_bag.specs.Calls.{IsSamePass, AddIsMade, RemoveIsMade, AddIsCaused, RemoveIsCaused, SeesCallers, AddsAlone, RemovesAlone, FullAlone};
+ghost use Rattle.shared_bag.specs.Bags.{opening_of, shape_of, callers_of, keeper_of};
+ghost use Rattle.shared_bag.specs.Answers.{AddEnters, RemoveEnters, AddIsCaused, RemoveIsCaused, AddsAlone, RemovesAlone, FullAlone, HadNoRoom};
 
-use crate::bags::Bag;
+use crate::bags::{Bag, BagPass, BagSeat};
 use crate::faults::{AddFault, Busy};
-use crate::passes::BagPass;
-use crate::plays::Adds;
-use crate::views::View;
-use crate::visits::{AddVisit, TakeVisit};
-use atomic_table::Seat;
-use segment_store::Segment;
+use crate::visits::{AddVisit, Kept};
 use seq_objects::Keeps;
-use std::marker::Brand;
 
 impl<K: Keeps> Bag<K> {
     // Visits the segments of the caller's locale.
-    pub(crate) fn add_once<W: Adds>(
-        &self,
-        seat: &mut Seat<Option<Segment>, View<K>>,
-        caller: u32,
-        item: u64,
-    ) -> Result<(), AddFault>
-        requires seat { IsSeatOf self.now seat.old }
-        requires rests { (seat.old.me.0.stage ≡ Idle) × (seat.old.me.1 ≡ []) }
-        requires caller { seat.old.me.0.number ≡ caller }
-        requires own { IsPage seat.old.me.0.number (page_of seat.old.me.0) }
-        requires item { W.item ≡ item }
+    pub(crate) fn add_once(&self, seat: &mut BagSeat<K>, item: u64) -> Result<(), AddFault>
+        requires seat { IsSeatOf self.now.table seat.old }
+        requires rests { IsResting seat.old }
         requires kept { K.keeps (keeper_of self.now) item }
-        ensures seat { IsSeatOf self.now seat.new }
-        ensures rests { (seat.new.me.0.stage ≡ Idle) × (seat.new.me.1 ≡ []) }
-        ensures tries { TriesAdd item seat.old.me.0 seat.new.me.0 result }
+        ensures seat { IsSeatOf self.now.table seat.new }
+        ensures rests { IsResting seat.new }
+        ensures tries { TriesAdd K.keeps (plan_of self.now.table) item (view_of seat.old) (view_of seat.new) result }
     {
+        let caller = seat.caller();
         let mut some_held = false;
         for place in 0..self.shape.segments {
             let segment = self.shape.tried(caller, place);
-            match self.add_at::<W>(seat, caller, segment, item) {
+            match self.add_at(seat, segment, item) {
                 AddVisit::Done => return Ok(()),
                 AddVisit::NoMemory => return Err(AddFault::OutOfMemory),
                 AddVisit::Held => some_held = true,
@@ -53,46 +39,23 @@ impl<K: Keeps> Bag<K> {
         Err(AddFault::Full)
     }
 
-    // Visits all segments.
-    fn sweep(&self, seat: &mut Seat<Option<Segment>, View<K>>, caller: u32) -> Option<u64>
-        requires seat { IsSeatOf self.now seat.old }
-        requires rests { (seat.old.me.0.stage ≡ Idle) × (seat.old.me.1 ≡ []) }
-        requires caller { seat.old.me.0.number ≡ caller }
-        requires own { IsPage seat.old.me.0.number (page_of seat.old.me.0) }
-        ensures seat { IsSeatOf self.now seat.new }
-        ensures rests { (seat.new.me.0.stage ≡ Idle) × (seat.new.me.1 ≡ []) }
-        ensures sweeps { Sweeps K.keeps seat.old.me.0 seat.new.me.0 result }
-    {
-        for place in 0..self.shape.all_segments() {
-            let segment = self.shape.tried(caller, place);
-            match self.take_at(seat, caller, segment) {
-                TakeVisit::Found { item } => return Some(item),
-                TakeVisit::Held => {}
-                TakeVisit::Empty => {}
-            }
-        }
-        None
-    }
-
-    pub(crate) fn remove_once(
-        &self,
-        seat: &mut Seat<Option<Segment>, View<K>>,
-        caller: u32,
-    ) -> Result<Option<u64>, Busy>
-        requires seat { IsSeatOf self.now seat.old }
-        requires rests { (seat.old.me.0.stage ≡ Idle) × (seat.old.me.1 ≡ []) }
-        requires caller { seat.old.me.0.number ≡ caller }
-        requires own { IsPage seat.old.me.0.number (page_of seat.old.me.0) }
-        ensures seat { IsSeatOf self.now seat.new }
-        ensures rests { (seat.new.me.0.stage ≡ Idle) × (seat.new.me.1 ≡ []) }
-        ensures tries { TriesRemove K.keeps seat.old.me.0 seat.new.me.0 result }
+    // Visits all segments between two looks at the count.
+    pub(crate) fn remove_once(&self, seat: &mut BagSeat<K>) -> Result<Option<u64>, Busy>
+        requires seat { IsSeatOf self.now.table seat.old }
+        requires rests { IsResting seat.old }
+        ensures seat { IsSeatOf self.now.table seat.new }
+        ensures rests { IsResting seat.new }
+        ensures tries { TriesRemove K.keeps (plan_of self.now.table) (view_of seat.old) (view_of seat.new) result }
     {
         if self.look_at_count(seat) == 0 {
             return Ok(None);
         }
-        if let Some(item) = self.sweep(seat, caller) {
+        let mut kept = None;
+        if let Some(item) = self.sweep(seat, &mut kept) {
+            self.hand_kept_back(seat, kept);
             return Ok(Some(item));
         }
+        self.give_kept_back(seat, kept);
         if self.look_at_count(seat) == 0 {
             return Ok(None);
         }
@@ -106,27 +69,32 @@ impl<K: Keeps> Bag<K> {
         requires opening { pass_opening pass.old ≡ opening_of self.now }
         requires kept { K.keeps (keeper_of self.now) item }
         ensures pass { IsSamePass pass.old pass.new }
-        ensures history { AddIsMade self.now pass.old pass.new item result }
-        ensures cause { AddIsCaused self.now pass.old pass.new result }
-        ensures callers { SeesCallers self.now pass.old pass.new }
-        ensures alone { AddsAlone self.now pass.old pass.new result }
-        ensures full_alone { FullAlone self.now pass.old pass.new result }
+        ensures history { AddEnters (change pass.old pass.new) item result }
+        ensures grows { IsPrefix (page pass.old).seen (page pass.new).seen }
+        ensures cause { AddIsCaused (shape_of self.now) (change pass.old pass.new) result }
+        ensures callers { IsOfCallers (callers_of self.now) (page pass.new).seen }
+        ensures alone { AddsAlone (callers_of self.now) (page pass.new) result }
+        ensures room { HadNoRoom (change pass.old pass.new) (shape_of self.now).room result }
+        ensures full_alone { FullAlone (change pass.old pass.new) (shape_of self.now) result }
     {
-        self.add_once::<Brand>(&mut pass.seat, pass.caller, item)
+        self.add_once(&mut pass.seat, item)
     }
 
-    /// Tries to take an item: the newest of the first segment that it gets and that has one, of its own
-    /// locale or of another. `None` is the reply of an empty bag. It has an entry in the history unless it
-    /// is busy: the bag was not empty, but each segment was another caller's or empty. It takes no memory.
+    /// Tries to take an item. It tries the segments of its own locale, and takes the newest item of the first that
+    /// it gets and that has one. Then it tries those of the other locales, and moves half of the items of
+    /// the first that has one to a segment of its own that it found empty, where it has got one. `None` is the
+    /// reply of an empty bag. It has an entry in the history unless it is busy: the bag was not empty, but each
+    /// segment was another caller's or empty. Where there is no memory to move items, it takes one alone.
     pub fn try_remove(&self, pass: &mut BagPass<K>) -> Result<Option<u64>, Busy>
         requires opening { pass_opening pass.old ≡ opening_of self.now }
         ensures pass { IsSamePass pass.old pass.new }
-        ensures history { RemoveIsMade self.now pass.old pass.new result }
-        ensures cause { RemoveIsCaused self.now pass.old pass.new result }
+        ensures history { RemoveEnters (change pass.old pass.new) result }
+        ensures grows { IsPrefix (page pass.old).seen (page pass.new).seen }
+        ensures cause { RemoveIsCaused (shape_of self.now) (change pass.old pass.new) result }
         ensures kept { IfOk result (λ taken. IfSome taken (λ item. K.keeps (keeper_of self.now) item)) }
-        ensures callers { SeesCallers self.now pass.old pass.new }
-        ensures alone { RemovesAlone self.now pass.old pass.new result }
+        ensures callers { IsOfCallers (callers_of self.now) (page pass.new).seen }
+        ensures alone { RemovesAlone (callers_of self.now) (page pass.new) result }
     {
-        self.remove_once(&mut pass.seat, pass.caller)
+        self.remove_once(&mut pass.seat)
     }
 }

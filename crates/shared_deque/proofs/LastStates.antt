@@ -1,5 +1,5 @@
 -- A deque opens with an empty history, and closes with the items of the ring.
-use Rattle.std.proofs.Common.{◌≡◌, ℕ, zero, suc, ◌+◌, ◌-◌, ◌*◌, ◌%◌, ◌<◌, ◌≤◌, true, List, [], length, map, get_or, slice_index, refl, ap, sym, ◌∙◌, subst, arith, ⊎_elim, mod-lt, IsTrue}
+use Rattle.std.proofs.Common.{◌≡◌, ℕ, zero, suc, ◌+◌, ◌-◌, ◌*◌, ◌%◌, ◌<◌, ◌≤◌, List, [], length, get_or, slice_index, refl, ap, sym, ◌∙◌, subst, arith, ⊎_elim, mod-lt}
 use Rattle.std.specs.Prelude.{replicate}
 use Rattle.std.specs.List.{All}
 use Rattle.std.proofs.lemmas.List.{ext_get_or, length-replicate}
@@ -18,18 +18,16 @@ use Rattle.pass_table.specs.declared.tables.PassTable.{PassTable}
 use Rattle.pass_table.specs.Terms.{Moment}
 use Rattle.pass_table.specs.Steps.{FirstShows}
 use Rattle.pass_table.specs.Passes.{plan_of, caller_of, page}
-use Rattle.pass_table.specs.Openings.{AreOfAllCallers}
 use Rattle.pass_table.specs.Closings.{ClosesWith as TableCloses}
 use Rattle.pass_table.specs.Looks.{HaveLooked}
 use Rattle.pass_table.proofs.LooksBack.{last_look, pages_before}
 use Rattle.shared_deque.specs.declared.layout.Word.{Word}
-use Rattle.shared_deque.specs.declared.layout.Word.TheVariants.{Ends}
 use Rattle.shared_deque.specs.declared.clients.Plan.{Plan}
 use Rattle.shared_deque.specs.declared.clients.Stage.{Stage}
 use Rattle.shared_deque.specs.declared.clients.Stage.TheVariants.{Idle}
 use Rattle.shared_deque.specs.declared.deques.Deque.{Deque}
 use Rattle.shared_deque.specs.Layout.{owner_in, value_in, owner_place, value_place, head_in, size_in}
-use Rattle.shared_deque.specs.Counted.{DequeEntry, LeavesItems, PushesKept, left_of, head_from, deque_with}
+use Rattle.shared_deque.specs.Counted.{DequeEntry, LeavesItems, left_of, head_from, deque_with}
 use Rattle.shared_deque.specs.Rule.{HasNoCell, IsAt, DequeRule, deque_terms}
 use Rattle.shared_deque.specs.Closed.{ClosesWith, ReadsRing}
 use Rattle.shared_deque.proofs.Logs.{sizes, counted}
@@ -98,8 +96,8 @@ module _ {K : Type 0} (keeps : K → ℕ → Type 0) (plan : Plan K) where
 module _ {K C O : Type 0} (keeps : K → ℕ → Type 0) (t : PassTable C O Unit (Plan K) Stage Word DequeCall DequeReply DequeState) (old new : List (Pass Unit DequeCall DequeReply (Plan K) Stage Word)) (most : ℕ)
     (looked : HaveLooked (deque_terms keeps) (plan_of t) most old new) (words : List ℕ) (slots : List Unit) (closes : TableCloses (deque_terms keeps) DequeOpens DequeSteps t new words slots) where
   -- the ends count no more items than were read of
-  pub closed_size : AreOfAllCallers (deque_terms keeps) t old → size_in (slice_index words 0) ≤ most
-  closed_size every =
+  pub closed_size : size_in (slice_index words 0) ≤ most
+  closed_size =
       let rule = closes.rule in
       let n : ℕ = (plan_of t).capacity in
       let h : List DequeEntry = closes.book.history in
@@ -110,7 +108,17 @@ module _ {K C O : Type 0} (keeps : K → ℕ → Type 0) (t : PassTable C O Unit
       ⊎_elim
       (λ none. let empty : length (left_of n h) ≡ 0 = ap (λ l. length (left_of n l)) none in omega arith)
       (λ t'. let counts : length (left_of n h) ≡ size_in t'.0 = t'.1 in let least = t'.2 in omega arith)
-      (last_look (deque_terms keeps) DequeOpens DequeSteps (plan_of t) t most old new looked h callers pages every)
+      (last_look (deque_terms keeps) DequeOpens DequeSteps (plan_of t) t most old new looked h callers pages closes.all)
+
+  -- what the history leaves is what the ring has
+  left_is : (items : List ℕ) (cells : ℕ) → (plan_of t).capacity ≡ cells → ReadsRing words cells items → left_of (plan_of t).capacity closes.book.history ≡ items
+  left_is items cells planned ring =
+      let m : Moment Unit DequeCall DequeReply Stage = record { words = words; homes = closes.homes; history = closes.book.history; parts = closes.parts } in
+      items_are keeps (plan_of t) m closes.rule (λ c below. idle_is (closes.parts c) (closes.rest c below)) items (subst (λ k. ReadsRing words k items) (sym planned) ring)
+
+  -- and it is kept
+  pub closed_kept : (items : List ℕ) (cells : ℕ) → (plan_of t).capacity ≡ cells → ReadsRing words cells items → All (keeps (plan_of t).keeper) items
+  closed_kept items cells planned ring = subst (All (keeps (plan_of t).keeper)) (left_is items cells planned ring) closes.rule.log.items_kept
 
   -- the last state shows the one book
   pub closes_deque : (d : Deque K) (items : List ℕ) (cells : ℕ) → plan_of d.table ≡ plan_of t → (plan_of t).capacity ≡ cells → ReadsRing words cells items → ClosesWith d old (keeps (plan_of t).keeper) items
@@ -118,9 +126,7 @@ module _ {K C O : Type 0} (keeps : K → ℕ → Type 0) (t : PassTable C O Unit
       let plan : Plan K = plan_of t in
       let rule = closes.rule in
       let h : List DequeEntry = closes.book.history in
-      let ring' : ReadsRing words plan.capacity items = subst (λ k. ReadsRing words k items) (sym planned) ring in
-      let m : Moment Unit DequeCall DequeReply Stage = record { words = words; homes = closes.homes; history = h; parts = closes.parts } in
-      let are = items_are keeps plan m rule (λ c below. idle_is (closes.parts c) (closes.rest c below)) items ring' in
+      let are = left_is items cells planned ring in
       let pages : All (λ q. IsPageOf (caller_of q) h (page q)) new = λ k p within. closes.legal.pages _ _ (closes.each k p within) in
       record {
         book = closes.book;

@@ -97,6 +97,10 @@ module _ {K : Type 0} (keeps : K → ℕ → Type 0) (plan : Plan K) where
       (λ stage. StaysTo (deque_terms keeps) DequeOpens DequeSteps plan m n stage m.1)
       kind found
 
+  -- a push that has won the ends stores its item and leaves its cell
+  abbrev pub Fills : ℕ → ℕ → Me Unit (View DequeCall DequeReply (Plan K) Stage Word) → Me Unit (View DequeCall DequeReply (Plan K) Stage Word) → Type 0
+  Fills cell item m n = (k : Me Unit (View DequeCall DequeReply (Plan K) Stage Word)) × Does (CellStore cell item) m item k × Does (Leave cell) k 0 n
+
   -- the step is permitted to its caller
   abbrev pub MayDo : ℕ → Kind → Me Unit (View DequeCall DequeReply (Plan K) Stage Word) → ℕ → (ℕ → ℕ) → (ℕ → ℕ) → Type 0
   MayDo slots kind m place f said =

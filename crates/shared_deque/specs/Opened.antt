@@ -1,5 +1,5 @@
 -- What the opening of a deque gives.
-use Rattle.std.specs.Prelude.{◌≡◌, ℕ, ◌<◌, ◌≤◌, List, [], length, map, slice_get, Some, All, Contains}
+use Rattle.std.specs.Prelude.{◌≡◌, ℕ, ◌≤◌, List, [], length, All}
 use Rattle.seq_objects.specs.declared.deques.DequeCall.{DequeCall}
 use Rattle.seq_objects.specs.declared.deques.DequeReply.{DequeReply}
 use Rattle.pass_table.specs.declared.passes.Pass.{Pass}
@@ -32,11 +32,7 @@ module _ {K : Type 0} (d : Deque K) where
   abbrev pub AreOfOpening : List (Pass Unit DequeCall DequeReply (Plan K) Stage Word) → Type 0
   AreOfOpening passes = All (λ p. pass_opening p ≡ opening_of d) passes
 
-  -- each caller's pass is among them
-  abbrev pub AreOfAllCallers : List (Pass Unit DequeCall DequeReply (Plan K) Stage Word) → Type 0
-  AreOfAllCallers passes = (caller : ℕ) → caller < callers_of d → Contains (map (λ (p : Pass Unit DequeCall DequeReply (Plan K) Stage Word). caller_of p) passes) caller
-
--- the deque was opened with these, and has a new pass for each caller, in order of number: they are the passes of all callers
+-- the deque was opened with these, and has a new pass for each caller, in order of number
 pub record IsOpenedWith {K : Type 0} (capacity callers : ℕ) (keeper : K) (d : Deque K)
     (passes : List (Pass Unit DequeCall DequeReply (Plan K) Stage Word)) : Type 0 where
   pub holds : capacity_of d ≡ capacity
@@ -45,4 +41,3 @@ pub record IsOpenedWith {K : Type 0} (capacity callers : ℕ) (keeper : K) (d : 
   pub count : length passes ≡ callers
   pub each : ArePassesOf d passes
   pub opening : AreOfOpening d passes
-  pub all : AreOfAllCallers d passes

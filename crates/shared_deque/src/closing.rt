@@ -1,12 +1,12 @@
 //! How a deque is closed.
-ghost use Rattle.std.specs.Prelude.{◌≡◌, ℕ, ◌+◌, ◌*◌, ◌<◌, ◌≤◌, [], IfOk, IfErr, slice_index, vec_len, vec_capacity};
+ghost use Rattle.std.specs.Prelude.{◌≡◌, ℕ, ◌+◌, ◌*◌, ◌<◌, ◌≤◌, [], length, All, IfOk, IfErr, slice_index, vec_len, vec_capacity};
 ghost use Rattle.std.specs.Slots.{slots_items, slots_len, IsFull};
 ghost use Rattle.pass_table.specs.Looks.{HaveLooked};
 ghost use Rattle.pass_table.specs.Passes.{plan_of};
 ghost use Rattle.shared_deque.specs.Layout.{size_in};
 ghost use Rattle.shared_deque.specs.Rule.{deque_terms};
-ghost use Rattle.shared_deque.specs.Deques.{keeper_of};
-ghost use Rattle.shared_deque.specs.Opened.{AreOfAllCallers, AreOfOpening};
+ghost use Rattle.shared_deque.specs.Deques.{callers_of, keeper_of};
+ghost use Rattle.shared_deque.specs.Opened.{AreOfOpening};
 ghost use Rattle.shared_deque.specs.Closed.{ClosesWith, ReadsRing};
 
 use crate::deques::{Deque, DequePass};
@@ -46,15 +46,16 @@ fn read_ring(closed: &Closed<(), Global>, capacity: u32, mut items: Vec<u64>) ->
 }
 
 impl<K: Keeps> Deque<K> {
-    /// Closes the deque, with the passes of all its callers, and gives what it holds. It first looks at the
+    /// Closes the deque, with as many passes of its opening as it has callers, and gives what it holds. It first looks at the
     /// ends with each pass, and takes memory for as many items as there are. Where there is none, the deque
     /// and the passes come back.
     pub fn close(self, mut passes: Vec<DequePass<K>>) -> Result<ClosedDeque, DequeBack<K>>
         requires opening { AreOfOpening self passes.items }
-        requires all { AreOfAllCallers self passes.items }
+        requires count { length passes.items ≡ callers_of self }
         ensures ok { IfOk result (λ closed. ClosesWith self passes.items (K.keeps (keeper_of self)) closed.items.items) }
+        ensures kept { IfOk result (λ closed. All (K.keeps (keeper_of self)) closed.items.items) }
         ensures err { IfErr result (λ back. (back.deque ≡ self) × ((most : ℕ) × HaveLooked (deque_terms K.keeps) (plan_of self.table) most passes.items back.passes.items)) }
-        ensures again { IfErr result (λ back. AreOfOpening back.deque back.passes.items × AreOfAllCallers back.deque back.passes.items) }
+        ensures again { IfErr result (λ back. AreOfOpening back.deque back.passes.items × (length back.passes.items ≡ callers_of back.deque)) }
     {
         let most = self.table.most_items(passes.as_mut_slice());
         let Ok(items) = Vec::with_capacity(self.alloc, most as usize) else {

@@ -1,8 +1,8 @@
 ghost use Rattle.std.specs.Prelude.{◌≡◌, ◌<◌, ◌≤◌, ◌+◌, All, length, IfOk, IfSome};
 ghost use mathlib.Core.List.{IsPrefix};
-ghost use Rattle.pass_table.specs.Passes.{IsSamePass, caller_of, page, pass_opening};
+ghost use Rattle.pass_table.specs.Passes.{IsSamePass, page, pass_opening};
 ghost use Rattle.shared_deque.specs.Deques.{callers_of, opening_of};
-ghost use Rattle.shared_deque.specs.Opened.{IsNewPass, ArePassesOf, AreOfAllCallers, AreOfOpening};
+ghost use Rattle.shared_deque.specs.Opened.{IsNewPass, ArePassesOf, AreOfOpening};
 
 use super::*;
 use crate::sides::Side;
@@ -128,7 +128,7 @@ fn close_alone(
     pass: DequePass<AnyItem>,
 ) -> Result<Vec<u64>, Fail>
     requires opening { pass_opening pass ≡ opening_of deque }
-    requires alone { (callers_of deque ≡ 1) × (caller_of pass ≡ 0) }
+    requires alone { callers_of deque ≡ 1 }
 {
     let mut passes = Vec::new(alloc);
     let Ok(()) = passes.push(pass) else {
@@ -143,7 +143,7 @@ fn close_alone(
 // A close that was refused, made again.
 fn closed_again(back: DequeBack<AnyItem>) -> Result<Vec<u64>, Fail>
     requires opening { AreOfOpening back.deque back.passes.items }
-    requires all { AreOfAllCallers back.deque back.passes.items }
+    requires count { length back.passes.items ≡ callers_of back.deque }
 {
     let DequeBack { deque, passes } = back;
     match deque.close(passes) {
@@ -331,7 +331,7 @@ fn replies_so(
 // The deque of one caller, with its pass.
 fn alone(alloc: Global, capacity: u32) -> Result<(Deque<AnyItem>, DequePass<AnyItem>), Fail>
     ensures opening { IfOk result (λ r. pass_opening r.1 ≡ opening_of r.0) }
-    ensures alone { IfOk result (λ r. (callers_of r.0 ≡ 1) × (caller_of r.1 ≡ 0)) }
+    ensures alone { IfOk result (λ r. callers_of r.0 ≡ 1) }
 {
     let (deque, mut passes) = Deque::open(alloc, 16, capacity, 1, AnyItem)?;
     let Some(pass) = take_pass(&deque, &mut passes) else {
@@ -496,8 +496,8 @@ fn closed_by_two(
     first: DequePass<Even>,
     second: DequePass<Even>,
 ) -> Result<Vec<u64>, Fail>
-    requires first { (pass_opening first ≡ opening_of deque) × (caller_of first ≡ 0) }
-    requires second { (pass_opening second ≡ opening_of deque) × (caller_of second ≡ 1) }
+    requires first { pass_opening first ≡ opening_of deque }
+    requires second { pass_opening second ≡ opening_of deque }
     requires callers { callers_of deque ≡ 2 }
 {
     let mut passes = Vec::new(alloc);
@@ -512,8 +512,8 @@ fn closed_by_two(
 
 // A deque of two callers, with their passes.
 fn pair(alloc: Global) -> Result<(Deque<Even>, DequePass<Even>, DequePass<Even>), Fail>
-    ensures first { IfOk result (λ r. (pass_opening r.1 ≡ opening_of r.0) × (caller_of r.1 ≡ 0)) }
-    ensures second { IfOk result (λ r. (pass_opening r.2 ≡ opening_of r.0) × (caller_of r.2 ≡ 1)) }
+    ensures first { IfOk result (λ r. pass_opening r.1 ≡ opening_of r.0) }
+    ensures second { IfOk result (λ r. pass_opening r.2 ≡ opening_of r.0) }
     ensures callers { IfOk result (λ r. callers_of r.0 ≡ 2) }
 {
     let (deque, mut passes) = Deque::open(alloc, 2, 5, 2, Even)?;

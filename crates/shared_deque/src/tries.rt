@@ -1,8 +1,11 @@
 //! One try of each call: it makes each of its steps once and waits for nobody.
-ghost use Rattle.std.specs.Prelude.{◌≡◌, IfOk, IfSome};
+ghost use Rattle.std.specs.Prelude.{◌≡◌, ◌<◌, IfOk, IfSome};
+ghost use mathlib.Core.List.{IsPrefix};
 ghost use Rattle.pass_book.specs.Histories.{IsOfCallers};
-ghost use Rattle.pass_table.specs.Passes.{IsSeatOf, IsResting, IsSamePass, change, page, pass_opening, view_of, plan_of};
+ghost use Rattle.pass_table.specs.Passes.{IsSeatOf, IsResting, IsAt, IsSamePass, change, page, pass_opening, view_of, plan_of, me_of};
 ghost use Rattle.shared_deque.specs.Aims.{call_of};
+ghost use Rattle.shared_deque.specs.Kinds.{Fills};
+ghost use Rattle.shared_deque.specs.declared.clients.Stage.TheVariants.{Storing};
 ghost use Rattle.shared_deque.specs.Tries.{TriesPush, TriesPop};
 ghost use Rattle.shared_deque.specs.Deques.{opening_of, capacity_of, callers_of, keeper_of};
 ghost use Rattle.shared_deque.specs.Answers.{PushEnters, PopEnters, PushIsCaused, PopIsCaused, PushesAlone, PopsAlone};
@@ -14,6 +17,18 @@ use crate::sides::{Aim, Side};
 use seq_objects::{DequeCall, Keeps};
 
 impl<K: Keeps> Deque<K> {
+    // Stores the item of a push that has won the ends, and leaves the cell.
+    fn fill(&self, seat: &mut DequeSeat<K>, cell: u32, item: u64)
+        requires seat { IsSeatOf self.now.table seat.old }
+        requires row { IsAt seat.old (Storing cell item) }
+        requires cell { cell < (plan_of self.now.table).capacity }
+        ensures seat { IsSeatOf self.now.table seat.new }
+        ensures fills { Fills K.keeps (plan_of self.now.table) cell item (me_of seat.old) (me_of seat.new) }
+    {
+        self.store_in_cell(seat, cell, item);
+        self.leave(seat, cell);
+    }
+
     pub(crate) fn push_once(
         &self,
         seat: &mut DequeSeat<K>,
@@ -35,17 +50,18 @@ impl<K: Keeps> Deque<K> {
         }
         let cell = claimed_cell(self.capacity, ends, aim);
         let turn = self.claim(seat, aim, ends, cell);
-        if turn != 0 {
+        let held = turn != 0;
+        if held {
             return Err(PushFault::Busy { seen: turn });
         }
         let next = next_ends(self.capacity, ends, aim);
         let found = self.exchange_ends(seat, aim, ends, 0, next);
-        if found != ends {
+        let lost = found != ends;
+        if lost {
             self.leave(seat, cell);
             return Err(PushFault::Busy { seen: found });
         }
-        self.store_in_cell(seat, cell, item);
-        self.leave(seat, cell);
+        self.fill(seat, cell, item);
         Ok(())
     }
 
@@ -68,14 +84,16 @@ impl<K: Keeps> Deque<K> {
         }
         let cell = claimed_cell(self.capacity, ends, aim);
         let turn = self.claim(seat, aim, ends, cell);
-        if turn != 0 {
+        let held = turn != 0;
+        if held {
             return Err(BusyAt { seen: turn });
         }
         let value = self.look_at_cell(seat, aim, ends, cell);
         let next = next_ends(self.capacity, ends, aim);
         let found = self.exchange_ends(seat, aim, ends, value, next);
         self.leave(seat, cell);
-        if found != ends {
+        let lost = found != ends;
+        if lost {
             return Err(BusyAt { seen: found });
         }
         Ok(Some(value))
@@ -87,6 +105,7 @@ impl<K: Keeps> Deque<K> {
         requires kept { K.keeps (keeper_of self.now) item }
         ensures pass { IsSamePass pass.old pass.new }
         ensures history { PushEnters (capacity_of self.now) (change pass.old pass.new) (call_of (Aim.Push side item)) result }
+        ensures grows { IsPrefix (page pass.old).seen (page pass.new).seen }
         ensures cause { PushIsCaused (capacity_of self.now) (callers_of self.now) (change pass.old pass.new) (call_of (Aim.Push side item)) result }
         ensures callers { IsOfCallers (callers_of self.now) (page pass.new).seen }
         ensures alone { PushesAlone (callers_of self.now) (page pass.new) result }
@@ -99,6 +118,7 @@ impl<K: Keeps> Deque<K> {
         requires opening { pass_opening pass.old ≡ opening_of self.now }
         ensures pass { IsSamePass pass.old pass.new }
         ensures history { PopEnters (capacity_of self.now) (change pass.old pass.new) (call_of (Aim.Pop side)) result }
+        ensures grows { IsPrefix (page pass.old).seen (page pass.new).seen }
         ensures cause { PopIsCaused (capacity_of self.now) (callers_of self.now) (change pass.old pass.new) (call_of (Aim.Pop side)) result }
         ensures kept { IfOk result (λ taken. IfSome taken (λ item. K.keeps (keeper_of self.now) item)) }
         ensures callers { IsOfCallers (callers_of self.now) (page pass.new).seen }
@@ -114,6 +134,7 @@ impl<K: Keeps> Deque<K> {
         requires kept { K.keeps (keeper_of self.now) item }
         ensures pass { IsSamePass pass.old pass.new }
         ensures history { PushEnters (capacity_of self.now) (change pass.old pass.new) (DequeCall.PushBack item) result }
+        ensures grows { IsPrefix (page pass.old).seen (page pass.new).seen }
         ensures cause { PushIsCaused (capacity_of self.now) (callers_of self.now) (change pass.old pass.new) (DequeCall.PushBack item) result }
         ensures callers { IsOfCallers (callers_of self.now) (page pass.new).seen }
         ensures alone { PushesAlone (callers_of self.now) (page pass.new) result }
@@ -128,6 +149,7 @@ impl<K: Keeps> Deque<K> {
         requires kept { K.keeps (keeper_of self.now) item }
         ensures pass { IsSamePass pass.old pass.new }
         ensures history { PushEnters (capacity_of self.now) (change pass.old pass.new) (DequeCall.PushFront item) result }
+        ensures grows { IsPrefix (page pass.old).seen (page pass.new).seen }
         ensures cause { PushIsCaused (capacity_of self.now) (callers_of self.now) (change pass.old pass.new) (DequeCall.PushFront item) result }
         ensures callers { IsOfCallers (callers_of self.now) (page pass.new).seen }
         ensures alone { PushesAlone (callers_of self.now) (page pass.new) result }
@@ -142,6 +164,7 @@ impl<K: Keeps> Deque<K> {
         requires opening { pass_opening pass.old ≡ opening_of self.now }
         ensures pass { IsSamePass pass.old pass.new }
         ensures history { PopEnters (capacity_of self.now) (change pass.old pass.new) DequeCall.PopBack result }
+        ensures grows { IsPrefix (page pass.old).seen (page pass.new).seen }
         ensures cause { PopIsCaused (capacity_of self.now) (callers_of self.now) (change pass.old pass.new) DequeCall.PopBack result }
         ensures kept { IfOk result (λ taken. IfSome taken (λ item. K.keeps (keeper_of self.now) item)) }
         ensures callers { IsOfCallers (callers_of self.now) (page pass.new).seen }
@@ -157,6 +180,7 @@ impl<K: Keeps> Deque<K> {
         requires opening { pass_opening pass.old ≡ opening_of self.now }
         ensures pass { IsSamePass pass.old pass.new }
         ensures history { PopEnters (capacity_of self.now) (change pass.old pass.new) DequeCall.PopFront result }
+        ensures grows { IsPrefix (page pass.old).seen (page pass.new).seen }
         ensures cause { PopIsCaused (capacity_of self.now) (callers_of self.now) (change pass.old pass.new) DequeCall.PopFront result }
         ensures kept { IfOk result (λ taken. IfSome taken (λ item. K.keeps (keeper_of self.now) item)) }
         ensures callers { IsOfCallers (callers_of self.now) (page pass.new).seen }

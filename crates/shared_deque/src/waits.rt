@@ -1,5 +1,6 @@
 //! The calls that wait: they repeat a try while it is busy.
 ghost use Rattle.std.specs.Prelude.{◌≡◌, IfSome};
+ghost use mathlib.Core.List.{IsPrefix};
 ghost use Rattle.pass_book.specs.Histories.{IsOfCallers};
 ghost use Rattle.pass_table.specs.Passes.{IsSeatOf, IsResting, IsSamePass, change, page, pass_opening, view_of, plan_of};
 ghost use Rattle.shared_deque.specs.Aims.{call_of};
@@ -69,6 +70,7 @@ impl<K: Keeps> Deque<K> {
         requires kept { K.keeps (keeper_of self.now) item }
         ensures pass { IsSamePass pass.old pass.new }
         ensures history { PushEnters (capacity_of self.now) (change pass.old pass.new) (call_of (Aim.Push side item)) (last_push result) }
+        ensures grows { IsPrefix (page pass.old).seen (page pass.new).seen }
         ensures cause { PushWaitIsCaused (capacity_of self.now) (callers_of self.now) (change pass.old pass.new) (call_of (Aim.Push side item)) result }
         ensures callers { IsOfCallers (callers_of self.now) (page pass.new).seen }
         ensures alone { SeesOwnAlone (callers_of self.now) (page pass.new) }
@@ -81,6 +83,7 @@ impl<K: Keeps> Deque<K> {
         requires opening { pass_opening pass.old ≡ opening_of self.now }
         ensures pass { IsSamePass pass.old pass.new }
         ensures history { PopEnters (capacity_of self.now) (change pass.old pass.new) (call_of (Aim.Pop side)) (last_pop result) }
+        ensures grows { IsPrefix (page pass.old).seen (page pass.new).seen }
         ensures cause { PopWaitIsCaused (capacity_of self.now) (callers_of self.now) (change pass.old pass.new) (call_of (Aim.Pop side)) result }
         ensures kept { IfSome result (λ item. K.keeps (keeper_of self.now) item) }
         ensures callers { IsOfCallers (callers_of self.now) (page pass.new).seen }
@@ -96,6 +99,7 @@ impl<K: Keeps> Deque<K> {
         requires kept { K.keeps (keeper_of self.now) item }
         ensures pass { IsSamePass pass.old pass.new }
         ensures history { PushEnters (capacity_of self.now) (change pass.old pass.new) (DequeCall.PushBack item) (last_push result) }
+        ensures grows { IsPrefix (page pass.old).seen (page pass.new).seen }
         ensures cause { PushWaitIsCaused (capacity_of self.now) (callers_of self.now) (change pass.old pass.new) (DequeCall.PushBack item) result }
         ensures callers { IsOfCallers (callers_of self.now) (page pass.new).seen }
         ensures alone { SeesOwnAlone (callers_of self.now) (page pass.new) }
@@ -115,6 +119,7 @@ impl<K: Keeps> Deque<K> {
         requires kept { K.keeps (keeper_of self.now) item }
         ensures pass { IsSamePass pass.old pass.new }
         ensures history { PushEnters (capacity_of self.now) (change pass.old pass.new) (DequeCall.PushFront item) (last_push result) }
+        ensures grows { IsPrefix (page pass.old).seen (page pass.new).seen }
         ensures cause { PushWaitIsCaused (capacity_of self.now) (callers_of self.now) (change pass.old pass.new) (DequeCall.PushFront item) result }
         ensures callers { IsOfCallers (callers_of self.now) (page pass.new).seen }
         ensures alone { SeesOwnAlone (callers_of self.now) (page pass.new) }
@@ -128,6 +133,7 @@ impl<K: Keeps> Deque<K> {
         requires opening { pass_opening pass.old ≡ opening_of self.now }
         ensures pass { IsSamePass pass.old pass.new }
         ensures history { PopEnters (capacity_of self.now) (change pass.old pass.new) DequeCall.PopBack (last_pop result) }
+        ensures grows { IsPrefix (page pass.old).seen (page pass.new).seen }
         ensures cause { PopWaitIsCaused (capacity_of self.now) (callers_of self.now) (change pass.old pass.new) DequeCall.PopBack result }
         ensures kept { IfSome result (λ item. K.keeps (keeper_of self.now) item) }
         ensures callers { IsOfCallers (callers_of self.now) (page pass.new).seen }
@@ -142,6 +148,7 @@ impl<K: Keeps> Deque<K> {
         requires opening { pass_opening pass.old ≡ opening_of self.now }
         ensures pass { IsSamePass pass.old pass.new }
         ensures history { PopEnters (capacity_of self.now) (change pass.old pass.new) DequeCall.PopFront (last_pop result) }
+        ensures grows { IsPrefix (page pass.old).seen (page pass.new).seen }
         ensures cause { PopWaitIsCaused (capacity_of self.now) (callers_of self.now) (change pass.old pass.new) DequeCall.PopFront result }
         ensures kept { IfSome result (λ item. K.keeps (keeper_of self.now) item) }
         ensures callers { IsOfCallers (callers_of self.now) (page pass.new).seen }

@@ -1,5 +1,6 @@
 use Rattle.std.proofs.Common.{◌≡◌}
-use Rattle.shared_bag.specs.Passes.{pass_opening, opening_of}
+use Rattle.shared_bag.specs.Passes.{pass_opening}
+use Rattle.shared_bag.specs.Bags.{opening_of}
 use Rattle.bench_objects.proofs.bag_pairs.make_waits.Given as goal
 
 abbrev pub invariant-loop-number : goal.invariant-loop-number

@@ -1,5 +1,6 @@
 use Rattle.std.proofs.Common.{◌≡◌}
-use Rattle.shared_bag.specs.Passes.{pass_opening, opening_of}
+use Rattle.pass_table.specs.Passes.{pass_opening}
+use Rattle.shared_bag.specs.Bags.{opening_of}
 use Rattle.shared_bag.proofs.tests.remove_until_found.Given as goal
 
 abbrev pub invariant-loop : goal.invariant-loop

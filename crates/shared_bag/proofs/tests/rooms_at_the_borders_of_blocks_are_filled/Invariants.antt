@@ -1,5 +1,6 @@
 use Rattle.std.proofs.Common.{◌≡◌}
-use Rattle.shared_bag.specs.Passes.{pass_opening, opening_of}
+use Rattle.pass_table.specs.Passes.{pass_opening}
+use Rattle.shared_bag.specs.Bags.{opening_of}
 use Rattle.shared_bag.proofs.tests.rooms_at_the_borders_of_blocks_are_filled.Given as goal
 
 abbrev pub invariant-loop-item : goal.invariant-loop-item

@@ -1,7 +1,8 @@
 use Rattle.std.proofs.Common.{◌≡◌, vec_len}
 use Rattle.std.specs.List.{All}
-use Rattle.shared_bag.specs.Passes.{pass_opening, opening_of}
-use Rattle.shared_bag.specs.Openings.{ArePassesOf}
+use Rattle.pass_table.specs.Passes.{pass_opening}
+use Rattle.shared_bag.specs.Bags.{opening_of}
+use Rattle.shared_bag.specs.Opened.{ArePassesOf}
 use Rattle.shared_bag.proofs.tests.workers_of.Given as goal
 
 abbrev pub invariant-loop-pass : goal.invariant-loop-pass

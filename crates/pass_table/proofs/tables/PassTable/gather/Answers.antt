@@ -1,7 +1,7 @@
 use Rattle.std.proofs.Common.{ap, ◌∙◌, ◌≡◌}
 use Rattle.pass_table.specs.Passes.{pass_opening, opening_of}
 use Rattle.pass_table.proofs.Lists.{none_left}
-use Rattle.pass_table.proofs.CloseSteps.{joins_pass, gathers_more, gathers_all, next_of}
+use Rattle.pass_table.proofs.CloseSteps.{joins_pass, gathers_more, gathers_all, gathers_numbers, next_of}
 use Rattle.pass_table.proofs.tables.PassTable.gather.Goals as goal
 
 pub join_seat-requires : goal.join_seat-requires
@@ -24,6 +24,11 @@ loop-pass-preserved g c =
       role = ap (λ m. m.0.role) join.2 ∙ l.role;
       rest = gathers_more c.loop-pass.all.me.0 _ _ _ _ c.in-Some-pop.pass (ap (λ m. m.0) join.2) c.in-Some-pop.ensures.items l.rest;
     }
+
+pub returns-clause-numbers : goal.returns-clause-numbers
+returns-clause-numbers g c =
+    let pop = c.in_default-pop.ensures in
+    gathers_numbers c.loop-pass.all.me.0 _ _ (none_left _ _ _ pop.items pop.rest pop.cases.0) c.loop-pass.invariant.rest
 
 pub returns-clause-gathered : goal.returns-clause-gathered
 returns-clause-gathered g c =

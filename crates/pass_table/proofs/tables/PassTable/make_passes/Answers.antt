@@ -2,7 +2,7 @@ use Rattle.std.proofs.Common.{ap, ap₂, ◌∙◌, arith, ◌≡◌, ◌<◌, [
 use Rattle.pass_table.specs.Views.{opener_next, newcomer, page_of}
 use Rattle.pass_table.specs.Passes.{pass_opening, opening_of, caller_of}
 use Rattle.pass_table.specs.Openings.{IsNewPass}
-use Rattle.pass_table.proofs.Lists.{in_order_more, all_in_order, numbers_there, count_after}
+use Rattle.pass_table.proofs.Lists.{in_order_more, all_in_order, count_after}
 use Rattle.pass_table.proofs.OpenSteps.{splits_first}
 use Rattle.pass_table.proofs.tables.PassTable.make_passes.Goals as goal
 
@@ -43,9 +43,3 @@ pub returns-clause-opening : goal.returns-clause-opening
 returns-clause-opening g c =
     let d = c.args.self.now in
     all_in_order (IsNewPass g.C.Client.terms d) (λ p. pass_opening p ≡ opening_of d) c.loop-caller.passes.items (λ k p new. new.opening) c.loop-caller.invariant.each
-
-pub returns-clause-all : goal.returns-clause-all
-returns-clause-all g c caller below =
-    let l = c.loop-caller.invariant in
-    let d = c.args.self.now in
-    numbers_there (IsNewPass g.C.Client.terms d) (λ p. caller_of p) c.loop-caller.passes.items (λ k p new. new.numbered) l.each caller (omega (arith, l.count, c.requires.callers, c.loop-caller-test.false))

@@ -1,9 +1,21 @@
-use Rattle.std.proofs.Common.{ap}
-use Rattle.shared_bag.proofs.WaitSteps.{waits_add_alone, waits_full_alone}
+use Rattle.std.proofs.Common.{◌<◌, sym, subst, arith}
+use Rattle.shared_bag.proofs.PassClauses.{add_history, sees_own, no_room_waiting}
+use Rattle.seq_objects.specs.Meanings.{BagOpens}
+use Rattle.seq_objects.specs.BagSteps.{BagStep}
+use Rattle.pass_table.proofs.Going.{goes_begins}
+use Rattle.shared_bag.specs.Rule.{bag_terms}
 use Rattle.shared_bag.proofs.bags.Bag.add.Goals as goal
 
-pub returns-clause-alone : goal.returns-clause-alone
-returns-clause-alone g c = waits_add_alone _ c.args.item c.args.pass.now.seat.me.0 c.add_waiting.new.seat.me.0 _ (ap (λ o. o.shape.callers) c.requires.opening) c.add_waiting.ensures.waits
+pub returns-clause-history : goal.returns-clause-history
+returns-clause-history g c = add_history g.K.Keeps.keeps _ _ _ c.args.item _ _ c.add_until_done.ensures.waits.goes
 
-pub returns-clause-full_alone : goal.returns-clause-full_alone
-returns-clause-full_alone g c = waits_full_alone _ c.args.item c.args.pass.now.seat.me.0 c.add_waiting.new.seat.me.0 _ (ap (λ o. o.shape) c.requires.opening) c.add_waiting.ensures.waits
+pub returns-clause-alone : goal.returns-clause-alone
+returns-clause-alone g c = sees_own g.K.Keeps.keeps _ _ _ _ _ c.add_until_done.ensures.waits.goes
+
+pub returns-clause-room : goal.returns-clause-room
+returns-clause-room g c =
+    let b = c.args.self.now in
+    no_room_waiting g.K.Keeps.keeps b.table.table.shared.key _ _ c.args.item _ (subst (λ s. 0 < s.segments) (sym b.planned) (omega (arith, b.shaped.segments.0))) c.add_until_done.ensures.waits
+
+pub returns-clause-grows : goal.returns-clause-grows
+returns-clause-grows g c = goes_begins (bag_terms g.K.Keeps.keeps) BagOpens BagStep _ _ _ _ _ c.add_until_done.ensures.waits.goes

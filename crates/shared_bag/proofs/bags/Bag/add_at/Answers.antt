@@ -1,53 +1,82 @@
-use Rattle.std.proofs.Common.{◌≡◌, ◌<◌, length, refl, subst, ap, sym, ◌∙◌, arith}
-use Rattle.shared_bag.specs.Steps.{CountsUp}
+use Rattle.std.proofs.Common.{◌≡◌, ◌<◌, [], ◌∷◌, ◌++◌, None, length, ap, sym, ◌∙◌, subst, arith}
+use Rattle.shared_bag.specs.Layout.{slot_place}
 use Rattle.shared_bag.specs.Shapes.{IsOwn}
-use Rattle.shared_bag.proofs.Orders.{own_locale}
-use Rattle.shared_bag.proofs.VisitSteps.{same_items, left_visit, added_visit}
+use Rattle.shared_bag.specs.Kinds.{holding}
+use Rattle.shared_bag.specs.Turns.{IsHolding}
+use Rattle.shared_bag.proofs.TurnSteps.{held_some}
+use Rattle.shared_bag.proofs.VisitSteps.{rest_holds, put_holds, got_holds, adds_full, adds_no_memory, adds_done}
 use Rattle.shared_bag.proofs.bags.Bag.add_at.Goals as goal
+
+pub returns-in_default-clause-rests : goal.returns-in_default-clause-rests
+returns-in_default-clause-rests g c = let is = c.in_default.ensures.none.holds [] [] (rest_holds c.args.seat.now.seat.me c.requires.rests) in (is.0, is.1)
+
+pub give_back-requires-clause-holds : goal.give_back-requires-clause-holds
+give_back-requires-clause-holds g c = ([], [], c.in-Some.ensures.some.holds [] [] (rest_holds c.args.seat.now.seat.me c.requires.rests))
+
+pub returns-then-len-self-clause-rests : goal.returns-then-len-self-clause-rests
+returns-then-len-self-clause-rests g c =
+    let is = c.give_back.ensures.leaves.holds [] [] (c.in-Some.ensures.some.holds [] [] (rest_holds c.args.seat.now.seat.me c.requires.rests)) in (is.0, is.1)
 
 pub returns-then-len-self-clause-adds : goal.returns-then-len-self-clause-adds
 returns-then-len-self-clause-adds g c =
-    let got = c.claim.ensures.got c.if-claim-ne0.false in
-    let items = same_items c.args.segment got.contents c.move_out-moved.result _ got.out c.move_out-moved.ensures.segment in
-    let room : c.args.seat.now.me.0.shape.room ≡ c.args.self.now.shape.room = ap (λ o. o.shape.room) c.requires.seat.opening ∙ ap (λ s. s.room) c.args.self.now.planned in
-    let long : length c.claim.new.seat.me.0.held ≡ c.args.seat.now.me.0.shape.room = ap length (got.held ∙ items) ∙ (sym c.len.ensures.count ∙ (c.if-len-self.true ∙ sym room)) in
-    let all = left_visit c.args.segment _ c.args.seat.now.me c.claim.new.seat.me _ _ got (ap (λ m. m.0) c.move_out-moved.ensures.left) long c.give_back.ensures.leaves in
-    (all.0, all.1, all.2, all.3, all.4)
+    adds_full g.K.Keeps.keeps c.args.self.now.table.table.shared.key c.args.segment c.in-Some.moved c.args.seat.now.seat.me c.get.new.seat.seat.me c.in-Some.ensures.some _ c.give_back.new.seat.seat.me c.give_back.ensures.leaves c.args.item
+    (sym c.len.ensures.count ∙ (c.if-len-self.true ∙ sym (ap (λ s. s.room) c.args.self.now.planned)))
 
-pub returns-then-is_err-clause-adds : goal.returns-then-is_err-clause-adds
-returns-then-is_err-clause-adds g c =
-    let got = c.claim.ensures.got c.if-claim-ne0.false in
-    let items = same_items c.args.segment got.contents c.move_out-moved.result _ got.out c.move_out-moved.ensures.segment in
-    let room : c.args.seat.now.me.0.shape.room ≡ c.args.self.now.shape.room = ap (λ o. o.shape.room) c.requires.seat.opening ∙ ap (λ s. s.room) c.args.self.now.planned in
-    let held = got.held ∙ items in
-    let less : length c.claim.new.seat.me.0.held < c.args.seat.now.me.0.shape.room = omega (arith, ap length held, c.len.ensures.count, c.if-len-self.false, room, got.short, ap length items) in
-    let all = left_visit c.args.segment _ c.args.seat.now.me c.claim.new.seat.me _ _ got (ap (λ m. m.0) c.move_out-moved.ensures.left) refl c.give_back-then-is_err.ensures.leaves in
-    let own : IsOwn c.args.seat.now.me.0.shape c.args.seat.now.me.0.number c.args.segment = own_locale _ _ _ _ c.args.segment (ap (λ o. o.shape) c.requires.seat.opening) c.requires.caller c.requires.own_locale in (
-      all.0,
-      all.1,
-      (length c.claim.new.seat.me.0.held, less, all.2),
-      (λ one counts. let full = got.full one own counts in absurd (omega (arith, less, full, ap length got.held))),
+pub give_back-requires-in-Err-clause-holds : goal.give_back-requires-in-Err-clause-holds
+give_back-requires-in-Err-clause-holds g c = (
+  [],
+  [],
+  got_holds g.K.Keeps.keeps c.args.self.now.table.table.shared.key c.args.segment c.in-Some.moved c.args.seat.now.seat.me c.get.new.seat.seat.me c.in-Some.ensures.some c.reserve.new.self.items [] [] c.reserve.ensures.items
+      (rest_holds c.args.seat.now.seat.me c.requires.rests),
+)
+
+pub returns-in-Err-clause-rests : goal.returns-in-Err-clause-rests
+returns-in-Err-clause-rests g c =
+    let is = c.give_back-in-Err.ensures.leaves.holds [] []
+    (got_holds g.K.Keeps.keeps c.args.self.now.table.table.shared.key c.args.segment c.in-Some.moved c.args.seat.now.seat.me c.get.new.seat.seat.me c.in-Some.ensures.some c.reserve.new.self.items [] [] c.reserve.ensures.items
+    (rest_holds c.args.seat.now.seat.me c.requires.rests)) in
+    (is.0, is.1)
+
+pub returns-in-Err-clause-adds : goal.returns-in-Err-clause-adds
+returns-in-Err-clause-adds g c =
+    let plan = c.args.self.now.table.table.shared.key in
+    let got = c.in-Some.ensures.some in
+    let room : plan.shape.room ≡ c.args.self.now.shape.room = ap (λ s. s.room) c.args.self.now.planned in
+    let less : length c.reserve.new.self.items < plan.shape.room = omega (arith, c.len.ensures.count, c.if-len-self.false, room, got.short, ap length c.reserve.ensures.items) in
+    adds_no_memory g.K.Keeps.keeps plan c.args.segment c.in-Some.moved c.args.seat.now.seat.me c.get.new.seat.seat.me got _ c.give_back-in-Err.new.seat.seat.me c.give_back-in-Err.ensures.leaves c.args.item c.reserve.ensures.items less c.requires.own
+
+pub count_put-requires-clause-held : goal.count_put-requires-clause-held
+count_put-requires-clause-held g c =
+    let plan = c.args.self.now.table.table.shared.key in
+    let got = c.in-Some.ensures.some in
+    let room : plan.shape.room ≡ c.args.self.now.shape.room = ap (λ s. s.room) c.args.self.now.planned in
+    let less : length c.in-Some.moved.items < plan.shape.room = omega (arith, c.len.ensures.count, c.if-len-self.false, room, got.short) in
+    (_, [], held_some c.get.new.seat.seat.me _ [] _ (got.holds [] [] (rest_holds c.args.seat.now.seat.me c.requires.rests)), less, subst (λ n. IsOwn plan.shape n c.args.segment) (sym got.goes.same.number) c.requires.own)
+
+pub hand_back-requires-clause-holds : goal.hand_back-requires-clause-holds
+hand_back-requires-clause-holds g c =
+    let put = c.count_put.ensures.does in
+    let items = c.push.ensures.items ∙ ap (λ l. l ++ c.args.item ∷ []) c.reserve.ensures.items in (
+      [],
+      [],
+      subst (λ l. IsHolding c.count_put.new.seat.seat.me (holding c.args.segment l ∷ []) ((slot_place c.args.segment, None) ∷ [])) (sym items)
+          (put_holds g.K.Keeps.keeps _ c.args.item put.0 c.args.segment c.in-Some.moved.items [] _ c.get.new.seat.seat.me _ put.1 (c.in-Some.ensures.some.holds [] [] (rest_holds c.args.seat.now.seat.me c.requires.rests))),
     )
+
+pub returns-clause-rests : goal.returns-clause-rests
+returns-clause-rests g c =
+    let put = c.count_put.ensures.does in
+    let items = c.push.ensures.items ∙ ap (λ l. l ++ c.args.item ∷ []) c.reserve.ensures.items in
+    let is = c.hand_back.ensures.leaves.holds [] []
+    (subst (λ l. IsHolding c.count_put.new.seat.seat.me (holding c.args.segment l ∷ []) ((slot_place c.args.segment, None) ∷ [])) (sym items)
+    (put_holds g.K.Keeps.keeps _ c.args.item put.0 c.args.segment c.in-Some.moved.items [] _ c.get.new.seat.seat.me _ put.1 (c.in-Some.ensures.some.holds [] [] (rest_holds c.args.seat.now.seat.me c.requires.rests)))) in
+    (is.0, is.1)
 
 pub returns-clause-adds : goal.returns-clause-adds
 returns-clause-adds g c =
-    let got = c.claim.ensures.got c.if-claim-ne0.false in
-    let counts = c.count_up.ensures.counts in
-    let items = same_items c.args.segment got.contents c.move_out-moved.result _ got.out c.move_out-moved.ensures.segment in
-    let room : c.args.seat.now.me.0.shape.room ≡ c.args.self.now.shape.room = ap (λ o. o.shape.room) c.requires.seat.opening ∙ ap (λ s. s.room) c.args.self.now.planned in
-    let own : IsOwn c.args.seat.now.me.0.shape c.args.seat.now.me.0.number c.args.segment = own_locale _ _ _ _ c.args.segment (ap (λ o. o.shape) c.requires.seat.opening) c.requires.caller c.requires.own_locale in (
-      counts.0,
-      added_visit c.args.segment c.args.item counts.0 c.args.seat.now.me c.claim.new.seat.me _ c.count_up.new.seat.me.0 _ c.requires.own got (ap (λ m. m.0) c.move_out-moved.ensures.left)
-          (subst (λ x. CountsUp x c.move_out-moved.new.seat.me.0 counts.0 c.count_up.new.seat.me.0) c.requires.item counts.1) c.hand_back.ensures.leaves,
-      (λ one counts'. let full = got.full one own counts' in absurd (omega (arith, c.len.ensures.count, c.if-len-self.false, room, full, ap length items))),
-    )
-
-pub count_up-requires-clause-own : goal.count_up-requires-clause-own
-count_up-requires-clause-own g c =
-    let got = c.claim.ensures.got c.if-claim-ne0.false in
-    let same = got.roams.same in
-    let v = c.args.seat.now.me.0 in
-    let m = c.claim.new.seat.me.0 in
-    let own : IsOwn v.shape v.number c.args.segment = own_locale _ _ _ _ c.args.segment (ap (λ o. o.shape) c.requires.seat.opening) c.requires.caller c.requires.own_locale in
-    let own' : IsOwn m.shape m.number m.segment = subst (λ k. IsOwn m.shape m.number k) (sym got.named) (own_locale m.shape v.shape m.number v.number c.args.segment same.shape same.number own) in
-    subst (λ x. IsOwn x.shape x.number x.segment) (sym (ap (λ n. n.0) c.move_out-moved.ensures.left)) own'
+    let plan = c.args.self.now.table.table.shared.key in
+    let got = c.in-Some.ensures.some in
+    let put = c.count_put.ensures.does in
+    let room : plan.shape.room ≡ c.args.self.now.shape.room = ap (λ s. s.room) c.args.self.now.planned in
+    let less : length c.in-Some.moved.items < plan.shape.room = omega (arith, c.len.ensures.count, c.if-len-self.false, room, got.short) in
+    adds_done g.K.Keeps.keeps plan c.args.segment c.in-Some.moved c.args.seat.now.seat.me c.get.new.seat.seat.me got c.args.item put.0 _ c.count_put.new.seat.seat.me c.hand_back.new.seat.seat.me c.requires.own less put.1 c.hand_back.ensures.leaves

@@ -1,13 +1,10 @@
-use Rattle.std.proofs.Common.{◌≡◌, []}
-use Rattle.shared_bag.specs.declared.views.Stage.TheVariants.{Idle}
-use Rattle.shared_bag.specs.Passes.{IsSeatOf}
-use Rattle.shared_bag.proofs.VisitSteps.{AddsSoFar}
+use Rattle.pass_table.specs.Passes.{IsSeatOf, IsResting, view_of, plan_of}
+use Rattle.shared_bag.proofs.SoFar.{AddsSoFar}
 use Rattle.shared_bag.proofs.bags.Bag.add_once.Given as goal
 
 abbrev pub invariant-loop-place : goal.invariant-loop-place
 invariant-loop-place g l = record {
-  seat : IsSeatOf l.self l.seat;
-  idle : l.seat.me.0.stage ≡ Idle;
-  empty : l.seat.me.1 ≡ [];
-  so_far : AddsSoFar l.fn.seat.me.0 l.seat.me.0 l.place l.some_held;
+  seat : IsSeatOf l.self.table l.seat;
+  rests : IsResting l.seat;
+  so_far : AddsSoFar g.K.Keeps.keeps (plan_of l.self.table) (view_of l.fn.seat) (view_of l.seat) l.place l.some_held;
 }

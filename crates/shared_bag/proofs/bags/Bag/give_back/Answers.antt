@@ -1,8 +1,8 @@
-use Rattle.std.proofs.Common.{◌≡◌, ap, sym, ◌∙◌, [], ◌∷◌, Some}
+use Rattle.shared_bag.proofs.TurnSteps.{is_back, leaves_found}
 use Rattle.shared_bag.proofs.bags.Bag.give_back.Goals as goal
 
-pub leave_as_found-requires-clause-back : goal.leave_as_found-requires-clause-back
-leave_as_found-requires-clause-back g c =
-    let back = c.move_back.ensures.back in
-    let named : c.move_back.new.seat.me.0.segment ≡ c.args.segment = ap (λ m. m.0.segment) back ∙ c.requires.segment.0 in
-    (c.args.moved, ap (λ m. m.1) back ∙ ap (λ k. (k, Some c.args.moved) ∷ []) (sym named), c.requires.same ∙ sym (ap (λ m. m.0.held) back))
+pub leave_found-requires-clause-back : goal.leave_found-requires-clause-back
+leave_found-requires-clause-back g c = is_back g.K.Keeps.keeps c.args.self.now.table.table.shared.key c.args.segment c.args.moved c.args.seat.now.seat.me _ c.move_back.ensures.back c.requires.holds
+
+pub returns-clause-leaves : goal.returns-clause-leaves
+returns-clause-leaves g c = leaves_found g.K.Keeps.keeps _ c.args.segment c.args.moved c.args.seat.now.seat.me _ c.move_back.ensures.back c.requires.holds _ c.leave_found.ensures.does

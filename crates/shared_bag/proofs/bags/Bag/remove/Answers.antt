@@ -1,6 +1,16 @@
-use Rattle.std.proofs.Common.{ap}
-use Rattle.shared_bag.proofs.WaitSteps.{waits_remove_alone}
+use Rattle.std.proofs.Common.{Ok}
+use Rattle.shared_bag.proofs.PassClauses.{remove_history, sees_own}
+use Rattle.seq_objects.specs.Meanings.{BagOpens}
+use Rattle.seq_objects.specs.BagSteps.{BagStep}
+use Rattle.pass_table.proofs.Going.{goes_begins}
+use Rattle.shared_bag.specs.Rule.{bag_terms}
 use Rattle.shared_bag.proofs.bags.Bag.remove.Goals as goal
 
+pub returns-clause-history : goal.returns-clause-history
+returns-clause-history g c = remove_history g.K.Keeps.keeps _ _ _ (Ok c.remove_until_done.result) _ c.remove_until_done.ensures.waits.goes
+
 pub returns-clause-alone : goal.returns-clause-alone
-returns-clause-alone g c = waits_remove_alone g.K.Keeps.keeps _ c.args.pass.now.seat.me.0 c.remove_waiting.new.seat.me.0 _ (ap (λ o. o.shape.callers) c.requires.opening) c.remove_waiting.ensures.waits
+returns-clause-alone g c = sees_own g.K.Keeps.keeps _ _ _ _ _ c.remove_until_done.ensures.waits.goes
+
+pub returns-clause-grows : goal.returns-clause-grows
+returns-clause-grows g c = goes_begins (bag_terms g.K.Keeps.keeps) BagOpens BagStep _ _ _ _ _ c.remove_until_done.ensures.waits.goes

@@ -1,9 +1,15 @@
-use Rattle.std.proofs.Common.{ap}
-use Rattle.shared_bag.proofs.WholeTries.{removes_alone, remove_kept}
+use Rattle.shared_bag.proofs.PassClauses.{remove_history, remove_alone}
+use Rattle.seq_objects.specs.Meanings.{BagOpens}
+use Rattle.seq_objects.specs.BagSteps.{BagStep}
+use Rattle.pass_table.proofs.Going.{goes_begins}
+use Rattle.shared_bag.specs.Rule.{bag_terms}
 use Rattle.shared_bag.proofs.bags.Bag.try_remove.Goals as goal
 
-pub returns-clause-kept : goal.returns-clause-kept
-returns-clause-kept g c = remove_kept g.K.Keeps.keeps _ c.args.pass.now.seat.me.0 c.remove_once.new.seat.me.0 _ (ap (λ o. o.keeper) c.requires.opening) c.remove_once.ensures.tries
+pub returns-clause-history : goal.returns-clause-history
+returns-clause-history g c = remove_history g.K.Keeps.keeps _ _ _ _ _ c.remove_once.ensures.tries.goes
 
 pub returns-clause-alone : goal.returns-clause-alone
-returns-clause-alone g c = removes_alone g.K.Keeps.keeps _ c.args.pass.now.seat.me.0 c.remove_once.new.seat.me.0 _ (ap (λ o. o.shape.callers) c.requires.opening) c.remove_once.ensures.tries
+returns-clause-alone g c = remove_alone g.K.Keeps.keeps _ _ _ _ c.remove_once.ensures.tries
+
+pub returns-clause-grows : goal.returns-clause-grows
+returns-clause-grows g c = goes_begins (bag_terms g.K.Keeps.keeps) BagOpens BagStep _ _ _ _ _ c.remove_once.ensures.tries.goes

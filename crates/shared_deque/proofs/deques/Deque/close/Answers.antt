@@ -1,9 +1,9 @@
-use Rattle.std.proofs.Common.{refl, sym, arith, subst, ◌≤◌, ◌≡◌}
+use Rattle.std.proofs.Common.{refl, ◌∙◌, arith}
 use Rattle.seq_objects.specs.Meanings.{DequeOpens, DequeSteps}
 use Rattle.pass_table.specs.Passes.{plan_of}
-use Rattle.pass_table.proofs.LooksBack.{looked_back, still_of_opening, still_of_all_callers}
+use Rattle.pass_table.proofs.LooksBack.{looked_back, still_of_opening}
 use Rattle.shared_deque.specs.Rule.{deque_terms}
-use Rattle.shared_deque.proofs.LastStates.{first_shows, closed_size, closes_deque}
+use Rattle.shared_deque.proofs.LastStates.{first_shows, closed_size, closed_kept, closes_deque}
 use Rattle.shared_deque.proofs.deques.Deque.close.Goals as goal
 
 pub most_items-most-requires-clause-first : goal.most_items-most-requires-clause-first
@@ -25,7 +25,7 @@ returns-in_default-clause-again g c =
     let plan = plan_of t in
     let most = c.most_items-most.result in
     let looked = looked_back T DequeOpens DequeSteps plan c.args.passes.len most c.args.passes.items c.as_mut_slice.result.now c.most_items-most.new.passes (omega (arith, c.args.passes.ok.0)) c.as_mut_slice.ensures.value c.most_items-most.ensures in
-    (still_of_opening T DequeOpens DequeSteps plan t most c.args.passes.items _ looked c.requires.opening, still_of_all_callers T DequeOpens DequeSteps plan t most c.args.passes.items _ looked c.requires.all)
+    (still_of_opening T DequeOpens DequeSteps plan t most c.args.passes.items _ looked c.requires.opening, looked.many ∙ c.requires.count)
 
 pub close-closed-requires-clause-opening : goal.close-closed-requires-clause-opening
 close-closed-requires-clause-opening g c =
@@ -36,14 +36,14 @@ close-closed-requires-clause-opening g c =
     let looked = looked_back T DequeOpens DequeSteps plan c.args.passes.len most c.args.passes.items c.as_mut_slice.result.now c.most_items-most.new.passes (omega (arith, c.args.passes.ok.0)) c.as_mut_slice.ensures.value c.most_items-most.ensures in
     still_of_opening T DequeOpens DequeSteps plan t most c.args.passes.items _ looked c.requires.opening
 
-pub close-closed-requires-clause-all : goal.close-closed-requires-clause-all
-close-closed-requires-clause-all g c =
+pub close-closed-requires-clause-count : goal.close-closed-requires-clause-count
+close-closed-requires-clause-count g c =
     let T = deque_terms g.K.Keeps.keeps in
     let t = c.args.self.table in
     let plan = plan_of t in
     let most = c.most_items-most.result in
     let looked = looked_back T DequeOpens DequeSteps plan c.args.passes.len most c.args.passes.items c.as_mut_slice.result.now c.most_items-most.new.passes (omega (arith, c.args.passes.ok.0)) c.as_mut_slice.ensures.value c.most_items-most.ensures in
-    still_of_all_callers T DequeOpens DequeSteps plan t most c.args.passes.items _ looked c.requires.all
+    looked.many ∙ c.requires.count
 
 pub read_ring-items-requires-clause-room : goal.read_ring-items-requires-clause-room
 read_ring-items-requires-clause-room g c =
@@ -52,7 +52,7 @@ read_ring-items-requires-clause-room g c =
     let plan = plan_of t in
     let most = c.most_items-most.result in
     let looked = looked_back T DequeOpens DequeSteps plan c.args.passes.len most c.args.passes.items c.as_mut_slice.result.now c.most_items-most.new.passes (omega (arith, c.args.passes.ok.0)) c.as_mut_slice.ensures.value c.most_items-most.ensures in
-    let few = closed_size g.K.Keeps.keeps t c.args.passes.items _ most looked _ _ c.close-closed.ensures.closes c.requires.all in
+    let few = closed_size g.K.Keeps.keeps t c.args.passes.items _ most looked _ _ c.close-closed.ensures.closes in
     (c.in-Ok.ensures.items, c.in-Ok.ensures.len, omega (arith, few, c.in-Ok.ensures.capacity))
 
 pub returns-clause-ok : goal.returns-clause-ok
@@ -63,3 +63,12 @@ returns-clause-ok g c =
     let most = c.most_items-most.result in
     let looked = looked_back T DequeOpens DequeSteps plan c.args.passes.len most c.args.passes.items c.as_mut_slice.result.now c.most_items-most.new.passes (omega (arith, c.args.passes.ok.0)) c.as_mut_slice.ensures.value c.most_items-most.ensures in
     closes_deque g.K.Keeps.keeps t c.args.passes.items _ most looked _ _ c.close-closed.ensures.closes c.args.self _ _ refl c.args.self.planned c.read_ring-items.ensures
+
+pub returns-clause-kept : goal.returns-clause-kept
+returns-clause-kept g c =
+    let T = deque_terms g.K.Keeps.keeps in
+    let t = c.args.self.table in
+    let plan = plan_of t in
+    let most = c.most_items-most.result in
+    let looked = looked_back T DequeOpens DequeSteps plan c.args.passes.len most c.args.passes.items c.as_mut_slice.result.now c.most_items-most.new.passes (omega (arith, c.args.passes.ok.0)) c.as_mut_slice.ensures.value c.most_items-most.ensures in
+    closed_kept g.K.Keeps.keeps t c.args.passes.items _ most looked _ _ c.close-closed.ensures.closes _ _ c.args.self.planned c.read_ring-items.ensures

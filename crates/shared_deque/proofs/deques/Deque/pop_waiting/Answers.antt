@@ -2,6 +2,9 @@ use Rattle.std.proofs.Common.{Ok}
 use Rattle.shared_deque.specs.declared.sides.Aim.TheVariants.{Pop}
 use Rattle.shared_deque.specs.Aims.{call_of}
 use Rattle.shared_deque.proofs.PassClauses.{pop_history, pop_wait_cause, sees_own, taken_kept}
+use Rattle.seq_objects.specs.Meanings.{DequeOpens, DequeSteps}
+use Rattle.pass_table.proofs.Going.{goes_begins}
+use Rattle.shared_deque.specs.Rule.{deque_terms}
 use Rattle.shared_deque.proofs.deques.Deque.pop_waiting.Goals as goal
 
 pub returns-clause-history : goal.returns-clause-history
@@ -15,3 +18,6 @@ returns-clause-kept g c = taken_kept (g.K.Keeps.keeps c.args.self.now.table.tabl
 
 pub returns-clause-alone : goal.returns-clause-alone
 returns-clause-alone g c = sees_own g.K.Keeps.keeps _ (call_of (Pop c.args.side)) _ _ _ _ c.pop_until_done.ensures.waits.goes
+
+pub returns-clause-grows : goal.returns-clause-grows
+returns-clause-grows g c = goes_begins (deque_terms g.K.Keeps.keeps) DequeOpens DequeSteps _ _ _ _ _ c.pop_until_done.ensures.waits.goes
