@@ -1,0 +1,212 @@
+-- A step does to its seat, and lists, what the seat and the one word that it finds say. No other seat is changed.
+use Rattle.std.proofs.Common.{◌≡◌, ◌≢◌, ◌==◌, ◌<◌, ℕ, refl, ap, sym, ◌∙◌, ⊎_elim, arith}
+use Rattle.std.proofs.lemmas.Bool.{cases_Bool}
+use Rattle.std.proofs.lemmas.Nat.{div-mul-add, mod-mul-add}
+use Rattle.pool_core.specs.declared.headers.Header.{Header}
+use Rattle.pool_core.specs.declared.headers.State.{State as HeaderState}
+use Rattle.pool_core.specs.declared.headers.State.TheVariants.{Free, Own, Shown, Worn}
+use Rattle.pool_core.specs.declared.free_words.FreeWord.{FreeWord}
+use Rattle.pool_core.specs.Headers.{header_word, state_number}
+use Rattle.pool_core.specs.FreeWords.{free_head_word}
+use Rattle.epoch_laws.specs.declared.steps.Kind.{Kind}
+use Rattle.epoch_laws.specs.declared.steps.Kind.TheVariants.{Register, Unregister, PinLook, PinSet, Unpin, TakeLook, TakeTry, Show, Hold, Touch, Return, DeferLook, DeferSwap, DeferLink, ElectLocal, ElectGlobal, EpochLook, ScanToken, Advance, Spread, Collect, Walk, Release, Leave, StackLook, StackNext, StackPop, StackPut, HandLink, HomeSwap, HomeLink, HomeTake, HomeWalk}
+use Rattle.epoch_laws.specs.Places.{place_in, pending, with_number}
+use Rattle.epoch_laws.specs.States.{State}
+use Rattle.epoch_laws.specs.Needs.{AllMet}
+use Rattle.epoch_laws.specs.TokenSteps.{register, unregister, pin_look, pin_set, unpin}
+use Rattle.epoch_laws.specs.TakeSteps.{take_look, take_try, show, give_back, is_free_with, look_count}
+use Rattle.epoch_laws.specs.HoldSteps.{hold, touch}
+use Rattle.epoch_laws.specs.DeferralSteps.{defer_look, defer_swap, defer_link}
+use Rattle.epoch_laws.specs.ReclaimSteps.{elect_local, elect_global, epoch_look, scan_token, advance, spread, collect, walk, release, leave, has_global, last_count}
+use Rattle.epoch_laws.specs.StackSteps.{stack_look, stack_next, stack_pop, stack_put, hand_link, same_head}
+use Rattle.epoch_laws.specs.HomeSteps.{home_swap, home_link, home_take, home_walk}
+use Rattle.epoch_laws.specs.Steps.{move}
+use Rattle.epoch_laws.proofs.Updates.{number_there}
+use Rattle.epoch_table.specs.Deeds.{deed}
+use Rattle.epoch_table.specs.Knowledge.{state_in, header_in, head_in, told, tells, Finds, IsOwnRow, Row}
+use Rattle.epoch_table.specs.Rule.{AreSmall}
+
+state_number_in : (st : HeaderState) → state_in (state_number st) ≡ st
+state_number_in Free = refl
+state_number_in Own = refl
+state_number_in Shown = refl
+state_number_in Worn = refl
+
+state_low : (st : HeaderState) → state_number st < 8
+state_low Free = omega arith
+state_low Own = omega arith
+state_low Shown = omega arith
+state_low Worn = omega arith
+
+-- a header is read back from its word
+pub header_read : (h : Header) → header_in (header_word h.count h.state) ≡ h
+header_read h =
+    let n = h.count in
+    let st = h.state in
+    λ i. record {
+      count = div-mul-add n 8 (state_number st) (state_low st) i;
+      state = (ap state_in (mod-mul-add n 8 (state_number st) (state_low st)) ∙ state_number_in st) i;
+    }
+
+-- and a free head, whose index fits
+pub head_read : (h : FreeWord) → h.index < 16777216 → head_in (free_head_word h.count h.index) ≡ h
+head_read h low = λ i. record { count = div-mul-add h.count 16777216 h.index low i; index = mod-mul-add h.count 16777216 h.index low i }
+
+-- a header says what its word says
+header_found : (h : Header) (found : ℕ) → header_word h.count h.state ≡ found → h ≡ header_in found
+header_found h found e = sym (header_read h) ∙ ap header_in e
+
+head_found : (h : FreeWord) (found : ℕ) → h.index < 16777216 → free_head_word h.count h.index ≡ found → h ≡ head_in found
+head_found h found low e = sym (head_read h low) ∙ ap head_in e
+
+-- no other seat is changed
+pub others_kept : (s : State) (c : ℕ) (k : Kind) (d : ℕ) → d ≢ c → (move s c k).outcome.next.seat d ≡ s.seat d
+unfolding move register unregister pin_look pin_set unpin take_look take_try show give_back hold touch defer_look defer_swap defer_link elect_local elect_global epoch_look scan_token advance spread collect walk release leave stack_look stack_next stack_pop stack_put hand_link home_swap home_link home_take home_walk
+others_kept s c (Register l n) d ne = ⊎_elim (λ e. rw e (number_there _ _ _ _ ne)) (λ e. rw e refl) (cases_Bool (s.words.token_word (record { locale = l; number = n }) == 0))
+others_kept s c Unregister d ne = number_there _ _ _ _ ne
+others_kept s c PinLook d ne = number_there _ _ _ _ ne
+others_kept s c PinSet d ne = number_there _ _ _ _ ne
+others_kept s c Unpin d ne = number_there _ _ _ _ ne
+others_kept s c (TakeLook l i) d ne = number_there _ _ _ _ ne
+others_kept s c (TakeTry l i) d ne = ⊎_elim (λ e. rw e (number_there _ _ _ _ ne)) (λ e. rw e refl) (cases_Bool (is_free_with (s.words.header (record { locale = l; index = i })) (look_count (s.seat c).free_look)))
+others_kept s c (Show q) d ne = number_there _ _ _ _ ne
+others_kept s c (Hold q) d ne = number_there _ _ _ _ ne
+others_kept s c (Touch q) d ne = refl
+others_kept s c (Return q) d ne = number_there _ _ _ _ ne
+others_kept s c (DeferLook q) d ne = number_there _ _ _ _ ne
+others_kept s c DeferSwap d ne = number_there _ _ _ _ ne
+others_kept s c DeferLink d ne = number_there _ _ _ _ ne
+others_kept s c ElectLocal d ne = ⊎_elim (λ e. rw e (number_there _ _ _ _ ne)) (λ e. rw e refl) (cases_Bool (s.words.election_of (s.seat c).token.locale == 0))
+others_kept s c ElectGlobal d ne = ⊎_elim (λ e. rw e (number_there _ _ _ _ ne)) (λ e. rw e (number_there _ _ _ _ ne)) (cases_Bool (s.words.election == 0))
+others_kept s c EpochLook d ne = number_there _ _ _ _ ne
+others_kept s c ScanToken d ne = number_there _ _ _ _ ne
+others_kept s c Advance d ne = number_there _ _ _ _ ne
+others_kept s c Spread d ne = number_there _ _ _ _ ne
+others_kept s c Collect d ne = number_there _ _ _ _ ne
+others_kept s c Walk d ne = number_there _ _ _ _ ne
+others_kept s c (Release q) d ne = ⊎_elim (λ e. rw e (number_there _ _ _ _ ne)) (λ e. rw e (number_there _ _ _ _ ne)) (cases_Bool (q.count == last_count))
+others_kept s c Leave d ne = ⊎_elim (λ e. rw e (number_there _ _ _ _ ne)) (λ e. rw e (number_there _ _ _ _ ne)) (cases_Bool (has_global (s.seat c).phase))
+others_kept s c (StackLook l) d ne = number_there _ _ _ _ ne
+others_kept s c StackNext d ne = number_there _ _ _ _ ne
+others_kept s c StackPop d ne = ⊎_elim (λ e. rw e (number_there _ _ _ _ ne)) (λ e. rw e (number_there _ _ _ _ ne)) (cases_Bool (same_head (s.words.free_head (s.seat c).stack.locale) (s.seat c).stack.head))
+others_kept s c (StackPut top tail) d ne = ⊎_elim (λ e. rw e (number_there _ _ _ _ ne)) (λ e. rw e (number_there _ _ _ _ ne)) (cases_Bool (same_head (s.words.free_head (s.seat c).stack.locale) (s.seat c).stack.head))
+others_kept s c (HandLink q word) d ne = refl
+others_kept s c (HomeSwap top tail) d ne = number_there _ _ _ _ ne
+others_kept s c HomeLink d ne = number_there _ _ _ _ ne
+others_kept s c (HomeTake l) d ne = number_there _ _ _ _ ne
+others_kept s c HomeWalk d ne = ⊎_elim (λ e. rw e refl) (λ e. rw e (number_there _ _ _ _ ne)) (cases_Bool (s.words.next (place_in ((s.seat c).homing.chain)) == pending))
+
+-- the number of seats stays
+pub seats_kept : (s : State) (c : ℕ) (k : Kind) → (move s c k).outcome.next.seats ≡ s.seats
+unfolding move register unregister pin_look pin_set unpin take_look take_try show give_back hold touch defer_look defer_swap defer_link elect_local elect_global epoch_look scan_token advance spread collect walk release leave stack_look stack_next stack_pop stack_put hand_link home_swap home_link home_take home_walk
+seats_kept s c (Register l n) = ⊎_elim (λ e. rw e refl) (λ e. rw e refl) (cases_Bool (s.words.token_word (record { locale = l; number = n }) == 0))
+seats_kept s c Unregister = refl
+seats_kept s c PinLook = refl
+seats_kept s c PinSet = refl
+seats_kept s c Unpin = refl
+seats_kept s c (TakeLook l i) = refl
+seats_kept s c (TakeTry l i) = ⊎_elim (λ e. rw e refl) (λ e. rw e refl) (cases_Bool (is_free_with (s.words.header (record { locale = l; index = i })) (look_count (s.seat c).free_look)))
+seats_kept s c (Show q) = refl
+seats_kept s c (Hold q) = refl
+seats_kept s c (Touch q) = refl
+seats_kept s c (Return q) = refl
+seats_kept s c (DeferLook q) = refl
+seats_kept s c DeferSwap = refl
+seats_kept s c DeferLink = refl
+seats_kept s c ElectLocal = ⊎_elim (λ e. rw e refl) (λ e. rw e refl) (cases_Bool (s.words.election_of (s.seat c).token.locale == 0))
+seats_kept s c ElectGlobal = ⊎_elim (λ e. rw e refl) (λ e. rw e refl) (cases_Bool (s.words.election == 0))
+seats_kept s c EpochLook = refl
+seats_kept s c ScanToken = refl
+seats_kept s c Advance = refl
+seats_kept s c Spread = refl
+seats_kept s c Collect = refl
+seats_kept s c Walk = refl
+seats_kept s c (Release q) = ⊎_elim (λ e. rw e refl) (λ e. rw e refl) (cases_Bool (q.count == last_count))
+seats_kept s c Leave = ⊎_elim (λ e. rw e refl) (λ e. rw e refl) (cases_Bool (has_global (s.seat c).phase))
+seats_kept s c (StackLook l) = refl
+seats_kept s c StackNext = refl
+seats_kept s c StackPop = ⊎_elim (λ e. rw e refl) (λ e. rw e refl) (cases_Bool (same_head (s.words.free_head (s.seat c).stack.locale) (s.seat c).stack.head))
+seats_kept s c (StackPut top tail) = ⊎_elim (λ e. rw e refl) (λ e. rw e refl) (cases_Bool (same_head (s.words.free_head (s.seat c).stack.locale) (s.seat c).stack.head))
+seats_kept s c (HandLink q word) = refl
+seats_kept s c (HomeSwap top tail) = refl
+seats_kept s c HomeLink = refl
+seats_kept s c (HomeTake l) = refl
+seats_kept s c HomeWalk = ⊎_elim (λ e. rw e refl) (λ e. rw e refl) (cases_Bool (s.words.next (place_in ((s.seat c).homing.chain)) == pending))
+
+-- a row that is one of what its seat knows is met where it is met of that
+pub row_met : (s : State) (c : ℕ) (k : Kind) → IsOwnRow k → Row s.shape s.seats c (s.seat c) k → AllMet (move s c k).needs
+unfolding move register unregister pin_look pin_set unpin take_look take_try show give_back hold touch defer_look defer_swap defer_link elect_local elect_global epoch_look scan_token advance spread collect walk release leave stack_look stack_next stack_pop stack_put hand_link home_swap home_link home_take home_walk
+row_met s c (Register l n) own h = h
+row_met s c Unregister own h = h
+row_met s c PinLook own h = h
+row_met s c PinSet own h = h
+row_met s c Unpin own h = h
+row_met s c (TakeLook l i) own h = h
+row_met s c (TakeTry l i) own h = h
+row_met s c (Show q) own h = absurd own
+row_met s c (Hold q) own h = absurd own
+row_met s c (Touch q) own h = absurd own
+row_met s c (Return q) own h = absurd own
+row_met s c (DeferLook q) own h = absurd own
+row_met s c DeferSwap own h = h
+row_met s c DeferLink own h = h
+row_met s c ElectLocal own h = h
+row_met s c ElectGlobal own h = h
+row_met s c EpochLook own h = h
+row_met s c ScanToken own h = h
+row_met s c Advance own h = h
+row_met s c Spread own h = h
+row_met s c Collect own h = h
+row_met s c Walk own h = h
+row_met s c (Release q) own h = absurd own
+row_met s c Leave own h = h
+row_met s c (StackLook l) own h = h
+row_met s c StackNext own h = h
+row_met s c StackPop own h = h
+row_met s c (StackPut top tail) own h = absurd own
+row_met s c (HandLink q word) own h = absurd own
+row_met s c (HomeSwap top tail) own h = absurd own
+row_met s c HomeLink own h = h
+row_met s c (HomeTake l) own h = h
+row_met s c HomeWalk own h = h
+
+-- what a step tells is what its seat and its word say
+pub told_so : (s : State) (c : ℕ) (k : Kind) (found : ℕ) → AreSmall s → IsOwnRow k → Finds s.words (deed (s.seat c) k) found
+    → told (move s c k).outcome c ≡ tells s.shape s.seats c (s.seat c) k found
+unfolding move register unregister pin_look pin_set unpin take_look take_try show give_back hold touch defer_look defer_swap defer_link elect_local elect_global epoch_look scan_token advance spread collect walk release leave stack_look stack_next stack_pop stack_put hand_link home_swap home_link home_take home_walk with_number
+told_so s c (Register l n) found small own e = rw e (⊎_elim (λ b. rw b refl) (λ b. rw b refl) (cases_Bool (found == 0)))
+told_so s c Unregister found small own e = refl
+told_so s c PinLook found small own e = rw e refl
+told_so s c PinSet found small own e = refl
+told_so s c Unpin found small own e = refl
+told_so s c (TakeLook l i) found small own e = rw (header_found (s.words.header (record { locale = l; index = i })) found e) refl
+told_so s c (TakeTry l i) found small own e =
+    rw (header_found (s.words.header (record { locale = l; index = i })) found e) (⊎_elim (λ b. rw b refl) (λ b. rw b refl) (cases_Bool (is_free_with (header_in found) (look_count (s.seat c).free_look))))
+told_so s c (Show q) found small own e = absurd own
+told_so s c (Hold q) found small own e = absurd own
+told_so s c (Touch q) found small own e = absurd own
+told_so s c (Return q) found small own e = absurd own
+told_so s c (DeferLook q) found small own e = absurd own
+told_so s c DeferSwap found small own e = rw e refl
+told_so s c DeferLink found small own e = refl
+told_so s c ElectLocal found small own e = rw e (⊎_elim (λ b. rw b refl) (λ b. rw b refl) (cases_Bool (found == 0)))
+told_so s c ElectGlobal found small own e = rw e (⊎_elim (λ b. rw b refl) (λ b. rw b refl) (cases_Bool (found == 0)))
+told_so s c EpochLook found small own e = rw e refl
+told_so s c ScanToken found small own e = rw e refl
+told_so s c Advance found small own e = refl
+told_so s c Spread found small own e = refl
+told_so s c Collect found small own e = rw e refl
+told_so s c Walk found small own e = rw e refl
+told_so s c (Release q) found small own e = absurd own
+told_so s c Leave found small own e = ⊎_elim (λ b. rw b refl) (λ b. rw b refl) (cases_Bool (has_global (s.seat c).phase))
+told_so s c (StackLook l) found small own e = rw (head_found (s.words.free_head l) found (small.heads l) e) refl
+told_so s c StackNext found small own e = rw e refl
+told_so s c StackPop found small own e =
+    let l = (s.seat c).stack.locale in
+    rw (head_found (s.words.free_head l) found (small.heads l) e) (⊎_elim (λ b. rw b refl) (λ b. rw b refl) (cases_Bool (same_head (head_in found) (s.seat c).stack.head)))
+told_so s c (StackPut top tail) found small own e = absurd own
+told_so s c (HandLink q word) found small own e = absurd own
+told_so s c (HomeSwap top tail) found small own e = absurd own
+told_so s c HomeLink found small own e = refl
+told_so s c (HomeTake l) found small own e = rw e refl
+told_so s c HomeWalk found small own e = rw e (⊎_elim (λ b. rw b refl) (λ b. rw b refl) (cases_Bool (found == pending)))

@@ -1,0 +1,12 @@
+pub mod Places
+pub mod Deeds
+pub mod Knowledge
+pub mod Keeps
+pub mod Quiet
+pub mod Histories
+pub mod Writing
+pub mod MachineSteps
+pub mod Permitted
+pub mod Lows
+pub mod Learning
+pub mod Openings

@@ -1,0 +1,29 @@
+use Rattle.std.proofs.Common.{◌<◌, sym, subst}
+use Rattle.epoch_table.specs.Deeds.{deed}
+use Rattle.epoch_table.specs.Kinds.{SwapsAt, Permitted}
+use Rattle.epoch_table.specs.Events.{PastOpens, PastSteps}
+use Rattle.epoch_table.specs.Rule.{manager_terms}
+use Rattle.epoch_table.specs.Kinds.{TellsKind}
+use Rattle.pass_table.specs.Steps.{Steps}
+use Rattle.epoch_table.proofs.Permitted.{may_swap, swaps_within, makes_of}
+use Rattle.epoch_table.proofs.words.Words.swap.Goals as goal
+
+pub swap-requires-clause-word : goal.swap-requires-clause-word
+swap-requires-clause-word g c =
+    let at = c.requires.at in subst (λ n. c.args.word < n) (sym c.args.self.now.wide) (swaps_within c.args.self.now.shape c.args.self.now.table.table.shared.key.own c.args.word _ _ at)
+
+pub swap-requires-clause-permits : goal.swap-requires-clause-permits
+swap-requires-clause-permits g c =
+    let plan = c.args.self.now.table.table.shared.key in
+    let me = c.args.seat.now.seat.me in
+    let at : SwapsAt plan.shape (deed me.0.part.seat c.args.kind) c.args.word c.args.new = subst (λ s. SwapsAt s (deed me.0.part.seat c.args.kind) c.args.word c.args.new) (sym c.args.self.now.planned) c.requires.at in
+    subst (λ k. Permitted g.C.Client.terms g.C.Object.Object.opens g.C.Object.Object.step plan c.args.self.now.table.table.shared.table_id.slots k me c.args.word (λ _. c.args.new) (λ n. n)) (sym c.requires.kind)
+    (may_swap g.C.Client.terms g.C.Object.Object.opens g.C.Object.Object.step g.met.C.Client.kept_by_unpins plan _ c.args.kind me c.requires.may c.args.word c.args.new at)
+
+pub returns-clause-makes : goal.returns-clause-makes
+returns-clause-makes g c =
+    let m = c.args.seat.now.seat.me in
+    let plan = c.args.self.now.table.table.shared.key in
+    let n = c.swap.new.seat.seat.me in
+    makes_of g.C.Client.terms g.C.Object.Object.opens g.C.Object.Object.step plan c.args.kind m c.swap.result n
+    (subst (λ k. Steps (manager_terms g.C.Client.terms) (PastOpens g.C.Object.Object.opens) (PastSteps g.C.Object.Object.step) plan (λ found e. TellsKind g.C.Client.terms plan m.0.number k m.0.part m.1 found e) m c.swap.result n) c.requires.kind c.swap.ensures.steps)

@@ -1,0 +1,142 @@
+-- The kinds of step of the machine on a table: from which seat, on which word, and what each tells.
+use Rattle.std.specs.Prelude.{◌≡◌, ◌==◌, ◌≤◌, ℕ, List, [], ◌∷◌, map}
+use prog.Atomic.{either}
+use Rattle.atomic_table.specs.Table.{Me}
+use Rattle.pass_book.specs.declared.entries.Entry.{Entry}
+use Rattle.pass_book.specs.declared.entries.Look.{Look}
+use Rattle.pgas_base.specs.declared.shapes.Shape.{Shape}
+use Rattle.epoch_laws.specs.declared.events.Item.{Item}
+use Rattle.epoch_laws.specs.declared.steps.Kind.{Kind}
+use Rattle.epoch_laws.specs.declared.steps.Kind.TheVariants.{PinLook, Unpin, TakeTry, Show, Hold, Touch, Return, DeferLook, ElectLocal, EpochLook, Release, StackLook, StackPop, StackPut, HandLink, HomeSwap}
+use Rattle.epoch_laws.specs.Words.{WordName}
+use Rattle.pass_table.specs.declared.views.View.{View}
+use Rattle.pass_table.specs.Terms.{Effect, SeesSo, Permits}
+use Rattle.pass_table.specs.Steps.{GoesTo}
+use Rattle.epoch_table.specs.declared.events.Happens.{Happens}
+use Rattle.epoch_table.specs.declared.events.Happens.TheVariants.{Lists}
+use Rattle.epoch_table.specs.declared.parts.Plan.{Plan}
+use Rattle.epoch_table.specs.declared.parts.Part.{Part}
+use Rattle.epoch_table.specs.Deeds.{Deed, Elsewhere, Loads, Stores, Swaps, Exchanges, deed}
+use Rattle.epoch_table.specs.Layout.{IsNamed, named_place}
+use Rattle.epoch_laws.specs.ReclaimSteps.{last_epoch}
+use Rattle.pool_core.specs.FreeWords.{free_index}
+use Rattle.epoch_table.specs.Events.{PastOpens, PastSteps}
+use Rattle.epoch_table.specs.Knowledge.{tells, Row}
+use Rattle.epoch_table.specs.Clients.{ClientTerms}
+use Rattle.epoch_table.specs.Rule.{manager_terms}
+
+-- what a step leaves in its word, where it finds this number
+abbrev pub number_after : Deed → ℕ → ℕ
+number_after Elsewhere found = found
+number_after (Loads name) found = found
+number_after (Stores name number) found = number
+number_after (Swaps name number) found = number
+number_after (Exchanges name old new) found = either (found == old) new found
+
+-- the words that it reads
+abbrev pub looks_of : Deed → ℕ → List (Look WordName)
+looks_of Elsewhere found = []
+looks_of (Loads name) found = record { name = name; word = found } ∷ []
+looks_of (Stores name number) found = []
+looks_of (Swaps name number) found = record { name = name; word = found } ∷ []
+looks_of (Exchanges name old new) found = record { name = name; word = found } ∷ []
+
+-- it is on this word of the machine
+abbrev pub IsOn : Deed → WordName → Type 0
+IsOn Elsewhere name = ⊥
+IsOn (Loads of) name = of ≡ name
+IsOn (Stores of number) name = of ≡ name
+IsOn (Swaps of number) name = of ≡ name
+IsOn (Exchanges of old new) name = of ≡ name
+
+-- it is a load of the word at this place, or a store, or an exchange, of these numbers
+abbrev pub LoadsAt : Shape → Deed → ℕ → Type 0
+LoadsAt shape (Loads name) word = IsNamed shape name × (word ≡ named_place shape name)
+LoadsAt shape _ word = ⊥
+
+abbrev pub StoresAt : Shape → Deed → ℕ → ℕ → Type 0
+StoresAt shape (Stores name number) word new = IsNamed shape name × (word ≡ named_place shape name) × (new ≡ number)
+StoresAt shape _ word new = ⊥
+
+abbrev pub SwapsAt : Shape → Deed → ℕ → ℕ → Type 0
+SwapsAt shape (Swaps name number) word new = IsNamed shape name × (word ≡ named_place shape name) × (new ≡ number)
+SwapsAt shape _ word new = ⊥
+
+abbrev pub ExchangesAt : Shape → Deed → ℕ → ℕ → ℕ → Type 0
+ExchangesAt shape (Exchanges name from to) word old new = IsNamed shape name × (word ≡ named_place shape name) × (old ≡ from) × (new ≡ to)
+ExchangesAt shape _ word old new = ⊥
+
+-- The kinds by which no object becomes owned, shown, deferred or free, and which take nothing from a stack
+abbrev pub IsQuiet : Kind → Type 0
+IsQuiet (TakeTry locale index) = ⊥
+IsQuiet (Show pointer) = ⊥
+IsQuiet (Hold pointer) = ⊥
+IsQuiet (Touch pointer) = ⊥
+IsQuiet (Return pointer) = ⊥
+IsQuiet (DeferLook pointer) = ⊥
+IsQuiet (Release pointer) = ⊥
+IsQuiet StackPop = ⊥
+IsQuiet (StackPut top tail) = ⊥
+IsQuiet (HandLink pointer word) = ⊥
+IsQuiet (HomeSwap top tail) = ⊥
+IsQuiet _ = Unit {0}
+
+-- What a step learns of the number that it finds, beside what that is: an epoch isn't above the last, and the object on top of a stack is one of its locale's
+abbrev pub Learns : Shape → Kind → ℕ → Type 0
+Learns shape PinLook found = found ≤ last_epoch
+Learns shape EpochLook found = found ≤ last_epoch
+Learns shape (StackLook locale) found = free_index found ≤ shape.objects
+Learns shape _ found = Unit {0}
+
+module _ {Call Reply : Type 0} where
+  -- an item as an entry of its caller
+  abbrev pub entry_of : ℕ → Item → Entry (Happens Call Reply) (Unit {0})
+  entry_of caller item = record { caller = caller; call = Lists item; reply = tt }
+
+  abbrev pub entries_of_items : ℕ → List Item → List (Entry (Happens Call Reply) (Unit {0}))
+  entries_of_items caller items = map (entry_of caller) items
+
+module _ {Self View' Call Reply State' : Type 0} (K : ClientTerms Self View' Call Reply State') where
+  -- what a pass knows of the client after a step of this kind: an unpin drops its holds
+  abbrev pub client_after : Kind → View' → View'
+  client_after Unpin view = K.unpinned view
+  client_after _ view = view
+
+  -- the client allows it: a reclaim begins with a won local election
+  abbrev pub Allows : Kind → Part View' → Type 0
+  Allows ElectLocal part = K.may_reclaim part.client part.seat.owned
+  Allows _ part = Unit {0}
+
+  module _ (plan : Plan Self) (caller : ℕ) where
+    abbrev pub part_after : Kind → Part View' → ℕ → Part View'
+    part_after kind part found = record { seat = (tells plan.shape plan.callers caller part.seat kind found).seat; client = client_after kind part.client }
+
+    abbrev pub entries_made : Kind → Part View' → ℕ → List (Entry (Happens Call Reply) (Unit {0}))
+    entries_made kind part found = entries_of_items caller (tells plan.shape plan.callers caller part.seat kind found).items
+
+    -- what a step of this kind by this caller tells of the number found
+    abbrev pub TellsKind : Kind → Part View' → List (ℕ × Unit {0}) → ℕ → Effect (Unit {0}) (Happens Call Reply) (Unit {0}) (Part View') WordName → Type 0
+    TellsKind kind part carried found e =
+        Learns plan.shape kind found
+        × SeesSo e (looks_of (deed part.seat kind) found) (entries_made kind part found) (part_after kind part found) carried
+
+    -- its row is met, and the client allows it
+    pub record MayMake (kind : Kind) (part : Part View') : Type 0 where
+      pub row : Row plan.shape plan.callers caller part.seat kind
+      pub quiet : IsQuiet kind
+      pub allowed : Allows kind part
+
+  -- a step of this kind is permitted on this word, which is then f of what it was
+  abbrev pub Permitted : (State' → Type 0) → (State' → Call → Reply → State' → Type 0) → Plan Self → ℕ → Kind → Me (Unit {0}) (View (Happens Call Reply) (Unit {0}) (Plan Self) (Part View') WordName) → ℕ → (ℕ → ℕ) → (ℕ → ℕ) → Type 0
+  Permitted opens step plan slots kind m word f said =
+      Permits (manager_terms K) (PastOpens opens) (PastSteps step) plan slots m.0.number m.0.rests m.0.part m.1 word f (λ found e. TellsKind plan m.0.number kind m.0.part m.1 (said found) e)
+
+  module _ (opens : State' → Type 0) (step : State' → Call → Reply → State' → Type 0) (plan : Plan Self) where
+    -- a seat before and after such a step
+    abbrev pub Makes : Kind → Me (Unit {0}) (View (Happens Call Reply) (Unit {0}) (Plan Self) (Part View') WordName) → ℕ
+        → Me (Unit {0}) (View (Happens Call Reply) (Unit {0}) (Plan Self) (Part View') WordName) → Type 0
+    Makes kind m found n =
+        let part = m.0.part in
+        Learns plan.shape kind found
+        × GoesTo (manager_terms K) (PastOpens opens) (PastSteps step) plan m n (looks_of (deed part.seat kind) found) (entries_made plan m.0.number kind part found)
+        (part_after plan m.0.number kind part found) m.1

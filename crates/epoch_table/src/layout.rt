@@ -1,0 +1,117 @@
+//! Where the words of a manager stand in its table. Only this file and `specs/Layout.antt` know.
+//!
+//! The two global words come first, each on a cache line of its own. Then each locale has five lines: its
+//! epoch, its election, its four lists, the head of its stack and that of its home chain. Then each token has
+//! a line, so that pins of two callers don't disturb one another. Then each object has its header, its next
+//! word and its row, one behind the other. Then each of the client's words has a line.
+ghost use Rattle.std.specs.Prelude.{◌≡◌, ◌+◌, ◌*◌, ◌^◌, ◌<◌, ◌≤◌};
+ghost use Rattle.pgas_base.specs.Shapes.{IsShape};
+ghost use Rattle.epoch_laws.specs.States.{IsPlace};
+ghost use Rattle.epoch_laws.specs.Timing.{IsToken};
+ghost use Rattle.epoch_laws.specs.Words.{local_epoch, local_election, list, free_stack, home_chain, token as word_of_token, header_of, next_of};
+ghost use Rattle.epoch_table.specs.Layout.{named_place, locale_place, tokens_place, objects_place, client_place, object_place};
+
+use epoch_laws::Token;
+use pgas_base::Shape;
+
+/// The words of one cache line.
+pub(crate) const LINE: usize = 8;
+
+/// The place of the global epoch.
+pub(crate) const EPOCH: usize = 0;
+
+/// The place of the global election.
+pub(crate) const ELECTION: usize = LINE;
+
+/// The first locale's words stand here, and those of the next one so many words on.
+pub(crate) const LOCALES: usize = 16;
+
+/// From one locale's words to the next one's.
+pub(crate) const LOCALE: usize = 5 * LINE;
+
+#[inline]
+fn locale_at(locale: u8) -> usize
+    ensures value { result ≡ locale_place locale }
+    ensures most { result ≤ 10216 }
+{
+    LOCALES + locale as usize * LOCALE
+}
+
+#[inline]
+pub(crate) fn epoch_at(locale: u8) -> usize
+    ensures { (shape : Shape) → result ≡ named_place shape (local_epoch locale) }
+{
+    locale_at(locale)
+}
+
+#[inline]
+pub(crate) fn election_at(locale: u8) -> usize
+    ensures { (shape : Shape) → result ≡ named_place shape (local_election locale) }
+{
+    locale_at(locale) + LINE
+}
+
+#[inline]
+pub(crate) fn stack_at(locale: u8) -> usize
+    ensures { (shape : Shape) → result ≡ named_place shape (free_stack locale) }
+{
+    locale_at(locale) + 3 * LINE
+}
+
+#[inline]
+pub(crate) fn token_at(shape: &Shape, token: Token) -> usize
+    requires shape { IsShape shape.now }
+    requires token { IsToken shape.now.locales shape.now.tokens token }
+    ensures { result ≡ named_place shape.now (word_of_token token) }
+{
+    let number = token.locale as usize * shape.tokens as usize + token.number as usize;
+    tokens_at(shape) + number * LINE
+}
+
+/// Where the tokens begin.
+#[inline]
+pub(crate) fn tokens_at(shape: &Shape) -> usize
+    ensures value { result ≡ tokens_place shape.now }
+    ensures most { result ≤ 10216 }
+{
+    locale_at(shape.locales)
+}
+
+/// Where the objects begin.
+#[inline]
+pub(crate) fn objects_at(shape: &Shape) -> usize
+    requires { IsShape shape.now }
+    ensures { result ≡ objects_place shape.now }
+{
+    tokens_at(shape) + shape.locales as usize * shape.tokens as usize * LINE
+}
+
+/// Where the client's words begin.
+#[inline]
+pub(crate) fn client_at(shape: &Shape) -> usize
+    requires { IsShape shape.now }
+    ensures value { result ≡ client_place shape.now }
+    ensures most { result < 2 ^ 32 }
+{
+    objects_at(shape) + shape.locales as usize * shape.objects as usize * (shape.width as usize + 2)
+}
+
+// The first word of an object, which is its header.
+#[inline]
+pub(crate) fn header_at(shape: &Shape, locale: u8, index: u32) -> usize
+    requires shape { IsShape shape.now }
+    requires place { IsPlace shape.now record { locale = locale; index = index } }
+    ensures { result ≡ named_place shape.now (header_of record { locale = locale; index = index }) }
+{
+    let number = locale as usize * shape.objects as usize + (index as usize - 1);
+    objects_at(shape) + number * (shape.width as usize + 2)
+}
+
+#[inline]
+pub(crate) fn next_at(shape: &Shape, locale: u8, index: u32) -> usize
+    requires shape { IsShape shape.now }
+    requires place { IsPlace shape.now record { locale = locale; index = index } }
+    ensures { result ≡ named_place shape.now (next_of record { locale = locale; index = index }) }
+{
+    header_at(shape, locale, index) + 1
+}

@@ -1,0 +1,52 @@
+//! The steps by which an object is taken.
+ghost use Rattle.std.specs.Prelude.{◌≡◌, ◌<◌};
+ghost use Rattle.epoch_laws.specs.StackSteps.{looked_top};
+ghost use Rattle.epoch_laws.specs.States.{IsPlace};
+ghost use Rattle.pass_table.specs.Passes.{IsSeatOf, plan_of, view_of, me_of};
+ghost use Rattle.epoch_table.specs.Kinds.{MayMake, Makes};
+
+use crate::clients::Client;
+use crate::layout::{header_at, next_at, stack_at};
+use crate::words::{TableSeat, Words};
+use epoch_laws::Kind;
+use std::marker::Brand;
+
+impl<C: Client> Words<C> {
+    /// Loads the header of an object.
+    #[inline]
+    pub fn take_look(&self, seat: &mut TableSeat<C>, locale: u8, index: u32) -> u64
+        requires seat { IsSeatOf self.now.table seat.old }
+        requires place { IsPlace self.now.shape record { locale = locale; index = index } }
+        requires may { MayMake C.terms (plan_of self.now.table) (view_of seat.old).number (Kind.TakeLook locale index) (view_of seat.old).part }
+        ensures seat { IsSeatOf self.now.table seat.new }
+        ensures makes { Makes C.terms C.Object.opens C.Object.step (plan_of self.now.table) (Kind.TakeLook locale index) (me_of seat.old) result (me_of seat.new) }
+    {
+        let at = header_at(&self.shape, locale, index);
+        self.load::<Brand>(seat, at, Kind::TakeLook { locale, index })
+    }
+
+    /// Loads the head of a locale's stack of free objects.
+    #[inline]
+    pub fn stack_look(&self, seat: &mut TableSeat<C>, locale: u8) -> u64
+        requires seat { IsSeatOf self.now.table seat.old }
+        requires locale { locale < self.now.shape.locales }
+        requires may { MayMake C.terms (plan_of self.now.table) (view_of seat.old).number (Kind.StackLook locale) (view_of seat.old).part }
+        ensures seat { IsSeatOf self.now.table seat.new }
+        ensures makes { Makes C.terms C.Object.opens C.Object.step (plan_of self.now.table) (Kind.StackLook locale) (me_of seat.old) result (me_of seat.new) }
+    {
+        self.load::<Brand>(seat, stack_at(locale), Kind::StackLook { locale })
+    }
+
+    /// Loads the next word of the object that was read on top of the stack.
+    #[inline]
+    pub fn stack_next(&self, seat: &mut TableSeat<C>, locale: u8, index: u32) -> u64
+        requires seat { IsSeatOf self.now.table seat.old }
+        requires place { IsPlace self.now.shape record { locale = locale; index = index } }
+        requires top { looked_top (view_of seat.old).part.seat.stack ≡ record { locale = locale; index = index } }
+        requires may { MayMake C.terms (plan_of self.now.table) (view_of seat.old).number Kind.StackNext (view_of seat.old).part }
+        ensures seat { IsSeatOf self.now.table seat.new }
+        ensures makes { Makes C.terms C.Object.opens C.Object.step (plan_of self.now.table) Kind.StackNext (me_of seat.old) result (me_of seat.new) }
+    {
+        self.load::<Brand>(seat, next_at(&self.shape, locale, index), Kind::StackNext)
+    }
+}
