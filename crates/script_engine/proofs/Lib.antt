@@ -1,3 +1,4 @@
+pub mod BagMakes
 pub mod Chains
 pub mod Crews
 pub mod Entered

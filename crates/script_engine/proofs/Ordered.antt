@@ -13,8 +13,10 @@ use Rattle.script_text.specs.declared.scripts.ObjectLine.{ObjectLine}
 use Rattle.script_text.specs.declared.scripts.ObjectLine.TheVariants.{List as AList, Bag as ABag, Deque as ADeque}
 use Rattle.script_text.specs.declared.replies.Reply.{Reply}
 use Rattle.script_text.specs.declared.replies.Reply.TheVariants.{TooLong}
+use Rattle.script_text.specs.declared.replies.Left.{Left}
+use Rattle.script_text.specs.Replies.{left_items}
 use Rattle.script_text.specs.Scripts.{PlainScript, IsValid}
-use Rattle.script_engine.specs.Answers.{AnswersOf, AnswersOnce, IsOrdered}
+use Rattle.script_engine.specs.Answers.{PlainAnswersOf, AnswersOnce, IsOrdered}
 use Rattle.script_engine.specs.Shown.{list_shown, deque_shown, ShowsList, ShowsDeque, IsTooLong, Never}
 use Rattle.script_engine.proofs.OneAnswer.{answers_once}
 use Rattle.script_engine.proofs.PlainAnswers.{one_each}
@@ -48,19 +50,19 @@ deque_told (OfDeque call once) reply says asked wants told tells a b = (a.0 ∙ 
 deque_told (OfList call) reply says asked wants told tells a b = absurd a
 deque_told (OfBag call once) reply says asked wants told tells a b = absurd a
 
-ordered : (object : ObjectLine) (script : PlainScript) (replies others : List (List Reply)) (items rest : List ℕ) → IsValid script → script.callers ≡ 1 → IsOrdered object
-    → AnswersOf object script replies items → AnswersOf object script others rest → (replies ≡ others) × (items ≡ rest)
-ordered (AList locales objects width) script replies others items rest valid alone is a b =
+ordered : (object : ObjectLine) (script : PlainScript) (replies others : List (List Reply)) (left rest : Left) → IsValid script → script.callers ≡ 1 → IsOrdered object
+    → PlainAnswersOf object script replies left → PlainAnswersOf object script others rest → (replies ≡ others) × (left_items left ≡ left_items rest)
+ordered (AList locales objects width) script replies others left rest valid alone is a b =
     let start : ListState = record { width = width; items = opening_list width } in
     let both = answers_once ListOpens ListSteps ShowsList (IsTooLong width) (λ (s : ListState). s.width ≡ width) (λ old new asked told f goes. ap (λ (s : ListState). s.width) goes.2 ∙ f)
     list_same list_told (λ call reply says n m. too_long width call reply n ∙ sym (too_long width call says m)) (list_apart width) start script replies others _ _ refl alone (one_each script valid alone) a b in
     (both.0, a.left ∙ (ap (λ (s : ListState). s.items) both.1 ∙ sym b.left))
-ordered (ABag locales segments room) script replies others items rest valid alone is a b = absurd is
-ordered (ADeque locales capacity) script replies others items rest valid alone is a b =
+ordered (ABag locales segments room) script replies others left rest valid alone is a b = absurd is
+ordered (ADeque locales capacity) script replies others left rest valid alone is a b =
     let start : DequeState = record { capacity = capacity; items = [] } in
     let both = answers_once DequeOpens DequeSteps ShowsDeque Never (λ (s : DequeState). Unit {0}) (λ old new asked told f goes. tt)
     deque_same deque_told (λ call reply says n m. absurd n) (λ old new call reply says asked told f none shows goes. none) start script replies others _ _ tt alone (one_each script valid alone) a b in
     (both.0, a.left ∙ (ap (λ (s : DequeState). s.items) both.1 ∙ sym b.left))
 
 pub once : AnswersOnce
-once script replies others items rest valid alone is a b = ordered script.object script replies others items rest valid alone is a b
+once script replies others left rest valid alone is a b = ordered script.object script replies others left rest valid alone is a b

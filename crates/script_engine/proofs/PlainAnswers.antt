@@ -12,7 +12,7 @@ use Rattle.script_text.specs.declared.replies.Replies.{Replies}
 use Rattle.script_text.specs.Replies.{reply_lists, left_items}
 use Rattle.script_text.specs.Scripts.{PlainScript, IsValid}
 use Rattle.script_engine.specs.declared.objects.ListOfWidth.{ListOfWidth}
-use Rattle.script_engine.specs.Answers.{AnswersOf}
+use Rattle.script_engine.specs.Answers.{PlainAnswersOf}
 use Rattle.script_engine.specs.Replied.{Does, ListDoes, BagDoes, DequeDoes, Replied, HasAnswered, first_calls}
 use Rattle.script_engine.specs.Shown.{ShowsList, ShowsBag, ShowsDeque, IsTooLong, Never}
 use Rattle.script_engine.proofs.SingleCaller.{answers_alone}
@@ -34,7 +34,7 @@ list_replied width from (call ∷ calls) (reply ∷ told) to is made =
 
 pub list_answer : (width : ℕ) (start : ListOfWidth) (script : PlainScript) (replies : Replies) → IsValid script → script.callers ≡ 1 → start.list.width ≡ width → start.list.items ≡ opening_list width
     → (a : HasAnswered (λ (old : ListOfWidth) (call : Call) (reply : Reply) (new : ListOfWidth). ListDoes old.list call reply new.list) (λ (asked : ListOfWidth) (items : List ℕ). items ≡ asked.list.items) start (first_calls script.rounds) replies)
-    → (locales objects : ℕ) → AnswersOf (AList locales objects width) script (reply_lists replies) (left_items replies.left)
+    → (locales objects : ℕ) → PlainAnswersOf (AList locales objects width) script (reply_lists replies) replies.left
 list_answer width start script replies valid alone wide zeros a locales objects =
     let from : ListState = record { width = width; items = opening_list width } in
     let opened : start.list ≡ from = ap (λ (w : ℕ). record { width = w; items = start.list.items }) wide ∙ ap (λ (items : List ℕ). record { width = width; items = items }) zeros in
@@ -44,14 +44,14 @@ list_answer width start script replies valid alone wide zeros a locales objects 
 
 pub bag_answer : (start : List ℕ) (script : PlainScript) (replies : Replies) → IsValid script → script.callers ≡ 1 → start ≡ []
     → HasAnswered BagDoes (λ (bag : List ℕ) (items : List ℕ). IsPermutation bag items × IsNonDecreasing items) start (first_calls script.rounds) replies
-    → (locales segments room : ℕ) → AnswersOf (ABag locales segments room) script (reply_lists replies) (left_items replies.left)
+    → (locales segments room : ℕ) → PlainAnswersOf (ABag locales segments room) script (reply_lists replies) replies.left
 bag_answer start script replies valid alone opened a locales segments room =
     let there = subst (λ (l : List ℕ). Replied BagDoes l (first_calls script.rounds) a.told a.to) opened a.replied in
     answers_alone BagOpens BagStep ShowsBag Never (λ (state : List ℕ). IsPermutation state (left_items replies.left) × IsNonDecreasing (left_items replies.left)) [] a.to script a.told (reply_lists replies) refl alone (one_each script valid alone) there a.alone a.held
 
 pub deque_answer : (capacity : ℕ) (start : DequeState) (script : PlainScript) (replies : Replies) → IsValid script → script.callers ≡ 1 → start.capacity ≡ capacity → start.items ≡ []
     → HasAnswered DequeDoes (λ (deque : DequeState) (items : List ℕ). items ≡ deque.items) start (first_calls script.rounds) replies
-    → (locales : ℕ) → AnswersOf (ADeque locales capacity) script (reply_lists replies) (left_items replies.left)
+    → (locales : ℕ) → PlainAnswersOf (ADeque locales capacity) script (reply_lists replies) replies.left
 deque_answer capacity start script replies valid alone holds empty a locales =
     let from : DequeState = record { capacity = capacity; items = [] } in
     let opened : start ≡ from = ap (λ (c : ℕ). record { capacity = c; items = start.items }) holds ∙ ap (λ (items : List ℕ). record { capacity = capacity; items = items }) empty in

@@ -6,7 +6,8 @@ use Rattle.std.proofs.lemmas.List.Sums.{sum_by-cons, get_or-le-sum_by}
 use Rattle.std.proofs.lemmas.Option.{slice_get_cases}
 use Rattle.script_text.specs.declared.scripts.Call.{Call}
 use Rattle.script_text.specs.declared.scripts.ObjectLine.{ObjectLine}
-use Rattle.script_text.specs.Lines.{IsOfObject, IsCallOf, is_once}
+use Rattle.script_text.specs.Lines.{IsOfObject, IsCallOf}
+use Rattle.script_text.specs.Rows.{is_once}
 use Rattle.script_text.specs.Scripts.{PlainScript, IsValid, counted_lines}
 use Rattle.script_engine.specs.Runs.{IsAskedOf, calls_of}
 

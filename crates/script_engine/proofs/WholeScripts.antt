@@ -25,15 +25,6 @@ use Rattle.script_engine.specs.Runs.{IsAt, HaveRun, AreNew, AreHired, AreDismiss
 pub all_written : {A : Type 0} (xs ys : List A) (n : ℕ) → n ≡ length xs → length ys ≡ length xs → take n (ys ++ drop (length ys) xs) ≡ ys
 all_written {A} xs ys n is same = ap (λ (k : ℕ). take k (ys ++ drop (length ys) xs)) (is ∙ sym same) ∙ take-append_seam ys (drop (length ys) xs)
 
--- passes in order are those of all callers
-pub all_callers : {Pass : Type 0} (caller : Pass → ℕ) (callers : ℕ) (passes : List Pass) → length passes ≡ callers → AreInOrder caller passes → (c : ℕ) → c < callers → Contains (map caller passes) c
-all_callers caller callers [] count order c below = absurd (omega (arith, count))
-all_callers {Pass} caller callers (p ∷ ps) count order c below =
-    let within : c < length (p ∷ ps) = omega (arith, count) in
-    let inside : c < length (map caller (p ∷ ps)) = omega (arith, within, length-map (p ∷ ps) caller) in
-    let same : slice_index_or (map caller (p ∷ ps)) c 0 ≡ c = get_or-map caller (p ∷ ps) c p 0 within ∙ order c p within in
-    subst (Contains (map caller (p ∷ ps))) same (Contains-get_or (map caller (p ∷ ps)) c 0 inside)
-
 pub hired_count : {Pass : Type 0} (passes : List Pass) (workers : List (Worker Pass)) → AreHired passes workers → length workers ≡ length passes
 hired_count {Pass} passes workers hired = sym (length-map workers (λ (w : Worker Pass). w.pass)) ∙ ap length hired.have
 

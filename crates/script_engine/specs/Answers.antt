@@ -11,10 +11,11 @@ use Rattle.script_text.specs.declared.scripts.ObjectLine.{ObjectLine}
 use Rattle.script_text.specs.declared.scripts.ObjectLine.TheVariants.{List as AList, Bag as ABag, Deque as ADeque}
 use Rattle.script_text.specs.declared.scripts.Call.{Call}
 use Rattle.script_text.specs.declared.replies.Reply.{Reply}
+use Rattle.script_text.specs.declared.replies.Left.{Left}
 use Rattle.script_text.specs.declared.replies.Replies.{Replies}
 use Rattle.script_text.specs.Replies.{reply_lists, left_items}
 use Rattle.script_text.specs.Scripts.{PlainScript, IsValid}
-use Rattle.script_engine.specs.Says.{SaysList, SaysBag, SaysDeque}
+use Rattle.script_engine.specs.Says.{SaysList, SaysPlainBag, SaysBag, SaysDeque}
 
 module _ {Asked Told : Type 0} (Says : ℕ → Call → Reply → List (Entry Asked Told) → List (Entry Asked Told) → Type 0) where
   -- How a caller's calls of a round, with their replies, stand in the round's part of the history, before which these
@@ -59,18 +60,29 @@ module _ {Asked Told State : Type 0} (opens : State → Type 0) (step : State �
 abbrev pub IsRisingOrder : List ℕ → List ℕ → Type 0
 IsRisingOrder items bag = IsPermutation bag items × IsNonDecreasing items
 
--- the script's answer, by its object
-abbrev pub AnswersOf : ObjectLine → PlainScript → List (List Reply) → List ℕ → Type 0
-AnswersOf (AList locales objects width) script replies items =
-    Answers ListOpens ListSteps (SaysList width) (record { width = width; items = opening_list width }) script replies (λ state. items ≡ state.items)
-AnswersOf (ABag locales segments room) script replies items =
-    Answers BagOpens BagStep SaysBag [] script replies (IsRisingOrder items)
-AnswersOf (ADeque locales capacity) script replies items =
-    Answers DequeOpens DequeSteps SaysDeque (record { capacity = capacity; items = [] }) script replies (λ state. items ≡ state.items)
+-- The answer to a script of an object of its own, by its kind, with what is left. A bag is never full.
+abbrev pub PlainAnswersOf : ObjectLine → PlainScript → List (List Reply) → Left → Type 0
+PlainAnswersOf (AList locales objects width) script replies left =
+    Answers ListOpens ListSteps (SaysList width) (record { width = width; items = opening_list width }) script replies (λ state. left_items left ≡ state.items)
+PlainAnswersOf (ABag locales segments room) script replies left =
+    Answers BagOpens BagStep SaysPlainBag [] script replies (IsRisingOrder (left_items left))
+PlainAnswersOf (ADeque locales capacity) script replies left =
+    Answers DequeOpens DequeSteps SaysDeque (record { capacity = capacity; items = [] }) script replies (λ state. left_items left ≡ state.items)
+
+-- The answer to a script of an object that callers share: a bag may be full.
+abbrev pub AnswersOf : ObjectLine → PlainScript → List (List Reply) → Left → Type 0
+AnswersOf (AList locales objects width) script replies left = PlainAnswersOf (AList locales objects width) script replies left
+AnswersOf (ABag locales segments room) script replies left =
+    Answers BagOpens BagStep (SaysBag script.callers segments room) [] script replies (IsRisingOrder (left_items left))
+AnswersOf (ADeque locales capacity) script replies left = PlainAnswersOf (ADeque locales capacity) script replies left
 
 -- The replies are an answer of the script.
 abbrev pub IsAnswer : PlainScript → Replies → Type 0
-IsAnswer script replies = AnswersOf script.object script (reply_lists replies) (left_items replies.left)
+IsAnswer script replies = AnswersOf script.object script (reply_lists replies) replies.left
+
+-- The same, where no bag is full.
+abbrev pub IsPlainAnswer : PlainScript → Replies → Type 0
+IsPlainAnswer script replies = PlainAnswersOf script.object script (reply_lists replies) replies.left
 
 -- each step of the object is a function
 abbrev pub IsOrdered : ObjectLine → Type 0
@@ -80,5 +92,5 @@ IsOrdered (ADeque locales capacity) = Unit {0}
 
 -- A script of one caller, on a list or a deque, has one answer at most.
 abbrev pub AnswersOnce : Type 0
-AnswersOnce = (script : PlainScript) (replies others : List (List Reply)) (items rest : List ℕ) → IsValid script → script.callers ≡ 1 → IsOrdered script.object
-    → AnswersOf script.object script replies items → AnswersOf script.object script others rest → (replies ≡ others) × (items ≡ rest)
+AnswersOnce = (script : PlainScript) (replies others : List (List Reply)) (left rest : Left) → IsValid script → script.callers ≡ 1 → IsOrdered script.object
+    → PlainAnswersOf script.object script replies left → PlainAnswersOf script.object script others rest → (replies ≡ others) × (left_items left ≡ left_items rest)

@@ -20,7 +20,7 @@ use Rattle.script_text.specs.declared.scripts.Call.{Call}
 use Rattle.script_text.specs.declared.scripts.Call.TheVariants.{Deque as OfDeque}
 use Rattle.script_text.specs.declared.replies.Reply.{Reply}
 use Rattle.script_text.specs.declared.replies.Reply.TheVariants.{Full, Took, Empty, Pushed}
-use Rattle.script_text.specs.Lines.{is_once}
+use Rattle.script_text.specs.Rows.{is_once}
 use Rattle.script_engine.specs.Replied.{IsDequeCall}
 
 -- a pass of a script's deque

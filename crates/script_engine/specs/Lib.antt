@@ -14,3 +14,4 @@ pub mod Workers
 pub mod Runs
 pub mod Shown
 pub mod DequeCalls
+pub mod BagCalls

@@ -1,6 +1,6 @@
 //! Scripts of one caller.
 ghost use Rattle.std.specs.Prelude.{◌≡◌, ◌∷◌, [], IfOk, OnOk, map, All, slice_index_or};
-ghost use Rattle.script_engine.specs.Answers.{IsAnswer};
+ghost use Rattle.script_engine.specs.Answers.{IsPlainAnswer};
 ghost use Rattle.script_engine.specs.Replied.{HasReplied, HasAnswered, AreAsked, first_calls};
 ghost use Rattle.script_text.specs.Replies.{reply_lists, left_items};
 ghost use Rattle.script_text.specs.Scripts.{plain_script, plain_round, IsValid};
@@ -16,7 +16,7 @@ use std::alloc::{AllocError, Global};
 pub fn run_alone(alloc: Global, script: &Script) -> Result<Replies, AllocError>
     requires valid { IsValid (plain_script script.now) }
     requires alone { script.now.callers ≡ 1 }
-    ensures answer { IfOk result (λ replies. IsAnswer (plain_script script.now) replies) }
+    ensures answer { IfOk result (λ replies. IsPlainAnswer (plain_script script.now) replies) }
 {
     let rounds = script.rounds.as_slice();
     match script.object {

@@ -6,6 +6,7 @@
 #![tactic(auto)]
 
 mod alone;
+mod bag_calls;
 mod calls;
 mod deque_calls;
 mod laws;
@@ -19,6 +20,7 @@ mod shared;
 mod tests;
 
 pub use alone::run_alone;
+pub use bag_calls::call_bag;
 pub use deque_calls::call_deque;
 pub use laws::answers_once;
 pub use scripts::run_script;
