@@ -1,3 +1,11 @@
+pub mod ClapFaults
+pub mod ClapGoes
+pub mod ClapPlain
+pub mod ClapReads
+pub mod ClapSaid
+pub mod ClapSteps
+pub mod ClapTakes
+pub mod ClapWords
 pub mod Lists
 pub mod MadeLists
 pub mod MadeReadBack

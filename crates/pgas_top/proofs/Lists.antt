@@ -1,4 +1,4 @@
-use Rattle.std.proofs.Common.{◌≡◌, List, [], ◌∷◌, length, get_or, arith}
+use Rattle.std.proofs.Common.{◌≡◌, List, [], ◌∷◌, length, get_or, refl, arith}
 
 -- a list of one element, by its element
 pub one_of : {X : Type 0} → (xs : List X) (a : X) → length xs ≡ 1 → a ≡ get_or xs 0 a → xs ≡ a ∷ []
@@ -12,3 +12,9 @@ two_of [] a b len first second = absurd (omega (arith, len))
 two_of (x ∷ []) a b len first second = absurd (omega (arith, len))
 two_of (x ∷ y ∷ []) a b len first second = cc
 two_of (x ∷ y ∷ z ∷ zs) a b len first second = absurd (omega (arith, len))
+
+-- the element of a list of one
+pub only_one : {X : Type 0} → (xs : List X) → length xs ≡ 1 → (x : X) × (xs ≡ x ∷ [])
+only_one [] len = absurd (omega (arith, len))
+only_one (x ∷ []) len = (x, refl)
+only_one (x ∷ y ∷ ys) len = absurd (omega (arith, len))

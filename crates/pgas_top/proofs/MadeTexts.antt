@@ -6,16 +6,19 @@ use Rattle.shared_io.specs.Counts.{Rose}
 use Rattle.edge_text.specs.Edges.{PlainEdges, plain_edges}
 use Rattle.edge_text.specs.declared.edges.EdgeList.{EdgeList}
 use Rattle.line_text.specs.declared.faults.TextFault.{TextFault}
-use Rattle.line_text.specs.declared.faults.TextFault.TheVariants as edge
+use Rattle.line_text.specs.declared.faults.TextFault.TheVariants as text
 use Rattle.edge_text.specs.EdgeText.{IsEdgeText}
 use Rattle.edge_text.specs.Reading.{Reading as EdgeReading, HasCause as EdgeCause, WasAskedFor as EdgesWereAskedFor}
-use Rattle.line_text.specs.Readings.{IsExcuse as IsEdgeExcuse}
+use Rattle.line_text.specs.Readings.{IsExcuse}
+use Rattle.run_text.specs.CheckText.{IsCheckText}
+use Rattle.run_text.specs.Reading.{Reading as RunReading, HasCause as RunCause, WasAskedFor as RunWasAskedFor}
+use Rattle.run_text.specs.RunText.{HasRun}
+use Rattle.run_text.specs.Runs.{PlainRun, plain_run}
+use Rattle.run_text.specs.declared.runs.RunText.{RunText}
 use Rattle.script_engine.specs.Answers.{IsAnswer}
-use Rattle.script_text.specs.declared.faults.ScriptFault.{ScriptFault}
-use Rattle.script_text.specs.declared.faults.ScriptFault.TheVariants as script
 use Rattle.script_text.specs.declared.replies.Replies.{Replies}
 use Rattle.script_text.specs.declared.scripts.Script.{Script}
-use Rattle.script_text.specs.Reading.{Reading as ScriptReading, HasCause as ScriptCause, WasAskedFor as ScriptWasAskedFor, IsExcuse as IsScriptExcuse}
+use Rattle.script_text.specs.Reading.{Reading as ScriptReading, HasCause as ScriptCause, WasAskedFor as ScriptWasAskedFor}
 use Rattle.script_text.specs.Replies.{replies_text}
 use Rattle.script_text.specs.Scripts.{PlainScript, plain_script}
 use Rattle.script_text.specs.ScriptText.{HasScript}
@@ -23,8 +26,8 @@ use Rattle.pgas_top.specs.Devices.{SourceChange, SourceFailed}
 use Rattle.pgas_top.specs.LevelsText.{IsLevelsText}
 use Rattle.pgas_top.specs.Outcome.{WasAskedFor}
 use Rattle.pgas_top.specs.MadeText.{IsMadeText, Says}
-use Rattle.pgas_top.specs.Statuses.{text_status, script_status}
-use Rattle.pgas_top.specs.Commands.{Plain, Run}
+use Rattle.pgas_top.specs.Statuses.{text_status}
+use Rattle.pgas_top.specs.Commands.{Plain, Run, Check}
 use Rattle.pgas_top.specs.declared.statuses.Status.{Status}
 use Rattle.pgas_top.specs.declared.statuses.Status.TheVariants.{OutOfMemory, ReadFault}
 
@@ -49,27 +52,27 @@ levels_made sources source list text reading is = record {
 
 -- what a fault of the reader says as a status, and why an accepted input excuses want of memory alone
 levels_say : (sources : List ℕ) (source : SourceChange) (read : List ℕ) (fault : TextFault) → EdgeCause read (IsAtEnd source.left_after) (SourceFailed source) fault → Says (Plain sources) source read (Err (text_status fault))
-levels_say sources source read (edge.BadLine line) means = means
-levels_say sources source read (edge.TooLarge kind line) means = means
-levels_say sources source read edge.ReadFault means = means
-levels_say sources source read edge.OutOfMemory means = tt
+levels_say sources source read (text.BadLine line) means = means
+levels_say sources source read (text.TooLarge kind line) means = means
+levels_say sources source read text.ReadFault means = means
+levels_say sources source read text.OutOfMemory means = tt
 
-levels_excused : (source : SourceChange) (fault : TextFault) → IsEdgeExcuse (SourceFailed source) fault → (SourceFailed source → ⊥) → text_status fault ≡ OutOfMemory
-levels_excused source (edge.BadLine line) excuse steady = absurd excuse
-levels_excused source (edge.TooLarge kind line) excuse steady = absurd excuse
-levels_excused source edge.ReadFault excuse steady = absurd (steady excuse)
-levels_excused source edge.OutOfMemory excuse steady = refl
+fault_excused : (source : SourceChange) (fault : TextFault) → IsExcuse (SourceFailed source) fault → (SourceFailed source → ⊥) → text_status fault ≡ OutOfMemory
+fault_excused source (text.BadLine line) excuse steady = absurd excuse
+fault_excused source (text.TooLarge kind line) excuse steady = absurd excuse
+fault_excused source text.ReadFault excuse steady = absurd (steady excuse)
+fault_excused source text.OutOfMemory excuse steady = refl
 
-levels_failed : (fault : TextFault) → ◌≡◌ {A = Result EdgeList TextFault} (Err fault) (Err edge.ReadFault) → ◌≡◌ {A = Result (Vec ℕ Global) Status} (Err (text_status fault)) (Err ReadFault)
-levels_failed (edge.BadLine line) e = cc
-levels_failed (edge.TooLarge kind line) e = cc
-levels_failed edge.ReadFault e = refl
-levels_failed edge.OutOfMemory e = cc
+fault_failed : {A : Type 0} (fault : TextFault) → ◌≡◌ {A = Result A TextFault} (Err fault) (Err text.ReadFault) → ◌≡◌ {A = Result (Vec ℕ Global) Status} (Err (text_status fault)) (Err ReadFault)
+fault_failed (text.BadLine line) e = cc
+fault_failed (text.TooLarge kind line) e = cc
+fault_failed text.ReadFault e = refl
+fault_failed text.OutOfMemory e = cc
 
 -- the reader gave no list
 pub levels_refused : (sources : List ℕ) (source : SourceChange) (fault : TextFault) (status : Status)
     → EdgeReading source.left_before source.left_after source.faults_before source.faults_after (Err fault)
-    → ((input : List ℕ) (list : PlainEdges) → source.left_before ≡ Some input → IsEdgeText input list → IsEdgeExcuse (Rose source.faults_before source.faults_after) fault)
+    → ((input : List ℕ) (list : PlainEdges) → source.left_before ≡ Some input → IsEdgeText input list → IsExcuse (Rose source.faults_before source.faults_after) fault)
     → status ≡ text_status fault → IsMadeText (Plain sources) source (Err status)
 levels_refused sources source fault status reading accepted is =
     let P : Status → Type 0 = λ s. IsMadeText (Plain sources) source (Err s) in
@@ -78,9 +81,51 @@ levels_refused sources source fault status reading accepted is =
       consumed = reading.consumed;
       asked = asked sources reading.read reading.asked;
       count = reading.count;
-      steady = λ other. reading.steady (λ e. other (levels_failed fault e));
+      steady = λ other. reading.steady (λ e. other (fault_failed fault e));
       says = levels_say sources source reading.read fault reading.means;
-      complete = λ is steady. levels_excused source fault (accepted is.0 is.2.0 is.1 is.2.1) steady;
+      complete = λ is steady. fault_excused source fault (accepted is.0 is.2.0 is.1 is.2.1) steady;
+    })
+
+-- ---- runs
+
+run_asked : (read : List ℕ) → RunWasAskedFor read → WasAskedFor Check read
+run_asked read a = record { earlier = a.earlier; piece = a.piece; parts = a.parts; admitted = a.could_go_on; bounded = a.bounded }
+
+-- the run was read and checked, and the text was made of that
+pub check_made : (source : SourceChange) (run : RunText) (text : Vec ℕ Global)
+    → RunReading source.left_before source.left_after source.faults_before source.faults_after (Ok run) → IsCheckText (plain_run run) text.items
+    → IsMadeText Check source (Ok text)
+check_made source run text reading is = record {
+  read = reading.read;
+  consumed = reading.consumed;
+  asked = run_asked reading.read reading.asked;
+  count = reading.count;
+  steady = λ other. reading.steady (λ e. cc);
+  says = (plain_run run, reading.means, is);
+  complete = λ accepted steady. tt;
+}
+
+check_says : (source : SourceChange) (read : List ℕ) (fault : TextFault) → RunCause read (IsAtEnd source.left_after) (SourceFailed source) fault → Says Check source read (Err (text_status fault))
+check_says source read (text.BadLine line) means = means
+check_says source read (text.TooLarge kind line) means = means
+check_says source read text.ReadFault means = means
+check_says source read text.OutOfMemory means = tt
+
+-- the reader gave no run
+pub check_refused : (source : SourceChange) (fault : TextFault) (status : Status)
+    → RunReading source.left_before source.left_after source.faults_before source.faults_after (Err fault)
+    → ((input : List ℕ) (run : PlainRun) → source.left_before ≡ Some input → HasRun input (Unit {0}) run → IsExcuse (Rose source.faults_before source.faults_after) fault)
+    → status ≡ text_status fault → IsMadeText Check source (Err status)
+check_refused source fault status reading accepted is =
+    let P : Status → Type 0 = λ s. IsMadeText Check source (Err s) in
+    subst P (sym is) (record {
+      read = reading.read;
+      consumed = reading.consumed;
+      asked = run_asked reading.read reading.asked;
+      count = reading.count;
+      steady = λ other. reading.steady (λ e. other (fault_failed fault e));
+      says = check_says source reading.read fault reading.means;
+      complete = λ is steady. fault_excused source fault (accepted is.0 is.2.0 is.1 is.2.1) steady;
     })
 
 -- ---- replies
@@ -103,29 +148,17 @@ replies_made source script replies text reading answers is = record {
 }
 
 -- the same of the reader of scripts
-replies_say : (source : SourceChange) (read : List ℕ) (fault : ScriptFault) → ScriptCause read (IsAtEnd source.left_after) (SourceFailed source) fault → Says Run source read (Err (script_status fault))
-replies_say source read (script.BadLine line) means = means
-replies_say source read (script.TooLarge kind line) means = means
-replies_say source read script.ReadFault means = means
-replies_say source read script.OutOfMemory means = tt
-
-replies_excused : (source : SourceChange) (fault : ScriptFault) → IsScriptExcuse (SourceFailed source) fault → (SourceFailed source → ⊥) → script_status fault ≡ OutOfMemory
-replies_excused source (script.BadLine line) excuse steady = absurd excuse
-replies_excused source (script.TooLarge kind line) excuse steady = absurd excuse
-replies_excused source script.ReadFault excuse steady = absurd (steady excuse)
-replies_excused source script.OutOfMemory excuse steady = refl
-
-replies_failed : (fault : ScriptFault) → ◌≡◌ {A = Result Script ScriptFault} (Err fault) (Err script.ReadFault) → ◌≡◌ {A = Result (Vec ℕ Global) Status} (Err (script_status fault)) (Err ReadFault)
-replies_failed (script.BadLine line) e = cc
-replies_failed (script.TooLarge kind line) e = cc
-replies_failed script.ReadFault e = refl
-replies_failed script.OutOfMemory e = cc
+replies_say : (source : SourceChange) (read : List ℕ) (fault : TextFault) → ScriptCause read (IsAtEnd source.left_after) (SourceFailed source) fault → Says Run source read (Err (text_status fault))
+replies_say source read (text.BadLine line) means = means
+replies_say source read (text.TooLarge kind line) means = means
+replies_say source read text.ReadFault means = means
+replies_say source read text.OutOfMemory means = tt
 
 -- the reader gave no script
-pub replies_refused : (source : SourceChange) (fault : ScriptFault) (status : Status)
+pub replies_refused : (source : SourceChange) (fault : TextFault) (status : Status)
     → ScriptReading source.left_before source.left_after source.faults_before source.faults_after (Err fault)
-    → ((input : List ℕ) (script : PlainScript) → source.left_before ≡ Some input → HasScript input (Unit {0}) script → IsScriptExcuse (Rose source.faults_before source.faults_after) fault)
-    → status ≡ script_status fault → IsMadeText Run source (Err status)
+    → ((input : List ℕ) (script : PlainScript) → source.left_before ≡ Some input → HasScript input (Unit {0}) script → IsExcuse (Rose source.faults_before source.faults_after) fault)
+    → status ≡ text_status fault → IsMadeText Run source (Err status)
 replies_refused source fault status reading accepted is =
     let P : Status → Type 0 = λ s. IsMadeText Run source (Err s) in
     subst P (sym is) (record {
@@ -133,7 +166,7 @@ replies_refused source fault status reading accepted is =
       consumed = reading.consumed;
       asked = script_asked reading.read reading.asked;
       count = reading.count;
-      steady = λ other. reading.steady (λ e. other (replies_failed fault e));
+      steady = λ other. reading.steady (λ e. other (fault_failed fault e));
       says = replies_say source reading.read fault reading.means;
-      complete = λ is steady. replies_excused source fault (accepted is.0 is.2.0 is.1 is.2.1) steady;
+      complete = λ is steady. fault_excused source fault (accepted is.0 is.2.0 is.1 is.2.1) steady;
     })

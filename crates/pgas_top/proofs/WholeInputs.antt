@@ -3,13 +3,13 @@ use Rattle.std.proofs.Common.{◌≡◌, ◌⊎◌, ℕ, List, [], ◌++◌, Opt
 use Rattle.std.specs.Io.KnownBytes.{Consumes, IsAtEnd}
 use Rattle.edge_text.proofs.Readings.{refusal_of_input as edges_of_input}
 use Rattle.edge_text.specs.EdgeText.{IsEdgeText}
-use Rattle.line_text.specs.declared.faults.TextFault.TheVariants.{BadLine as BadEdges, TooLarge as TooLargeEdges}
-use Rattle.script_text.proofs.WholeInputs.{script_of_input, refusal_of_input}
-use Rattle.script_text.specs.declared.faults.ScriptFault.TheVariants.{BadLine, TooLarge as TooLargeScript}
+use Rattle.line_text.specs.declared.faults.TextFault.TheVariants.{BadLine as BadText, TooLarge as TooLargeText}
+use Rattle.run_text.proofs.Readings.{run_of_input, refusal_of_input as run_refusal_of_input}
+use Rattle.script_text.proofs.Readings.{script_of_input, refusal_of_input}
 use Rattle.shared_io.specs.declared.limits.TooKind.{TooKind}
 use Rattle.pgas_top.specs.Devices.{SourceChange, SinkChange, SourceFailed}
 use Rattle.pgas_top.specs.Outcome.{Accepts, Completes, Refuses, Exceeds, Rejects, Ends}
-use Rattle.pgas_top.specs.Commands.{Request, Plain, Run, Make}
+use Rattle.pgas_top.specs.Commands.{Request, Plain, Run, Check, Make}
 use Rattle.pgas_top.specs.declared.statuses.Status.{Status}
 use Rattle.pgas_top.specs.declared.statuses.Status.TheVariants.{Done, BadWords, BadInput, ReadFault, WriteFault, OutOfMemory, TooLarge}
 
@@ -19,17 +19,20 @@ accepts_whole (Plain sources) input read rest text parts is =
     let whole : input ≡ read = parts ∙ (ap (λ (r : List ℕ). read ++ r) is.0 ∙ append-nil read) in
     (input, refl, (is.1.0, subst (λ (l : List ℕ). IsEdgeText l is.1.0) (sym whole) is.1.1))
 accepts_whole Run input read rest text parts is = (input, refl, (is.0, script_of_input input read rest is.0 parts is.1))
+accepts_whole Check input read rest text parts is = (input, refl, (is.0, run_of_input input read rest is.0 parts is.1))
 accepts_whole (Make seed vertices edges) input read rest text parts is = tt
 
 -- what was read is refused, so the input is
 refuses_whole : (command : Request) (input read rest : List ℕ) (line : ℕ) → input ≡ read ++ rest → Refuses command read (rest ≡ []) line → Refuses command input (Unit {0}) line
-refuses_whole (Plain sources) input read rest line parts is = edges_of_input input read rest (BadEdges line) parts is
-refuses_whole Run input read rest line parts is = refusal_of_input input read rest (BadLine line) parts is
+refuses_whole (Plain sources) input read rest line parts is = edges_of_input input read rest (BadText line) parts is
+refuses_whole Check input read rest line parts is = run_refusal_of_input input read rest (BadText line) parts is
+refuses_whole Run input read rest line parts is = refusal_of_input input read rest (BadText line) parts is
 refuses_whole (Make seed vertices edges) input read rest line parts is = is
 
 exceeds_whole : (command : Request) (input read rest : List ℕ) (kind : TooKind) (line : ℕ) → input ≡ read ++ rest → Exceeds command read (rest ≡ []) kind line → Exceeds command input (Unit {0}) kind line
-exceeds_whole (Plain sources) input read rest kind line parts is = edges_of_input input read rest (TooLargeEdges kind line) parts is
-exceeds_whole Run input read rest kind line parts is = refusal_of_input input read rest (TooLargeScript kind line) parts is
+exceeds_whole (Plain sources) input read rest kind line parts is = edges_of_input input read rest (TooLargeText kind line) parts is
+exceeds_whole Check input read rest kind line parts is = run_refusal_of_input input read rest (TooLargeText kind line) parts is
+exceeds_whole Run input read rest kind line parts is = refusal_of_input input read rest (TooLargeText kind line) parts is
 exceeds_whole (Make seed vertices edges) input read rest kind line parts is = is
 
 module _ (command : Request) (source : SourceChange) (sink : SinkChange) (read written input : List ℕ) (isnt : Accepts command (Some input) → ⊥) (steady : SourceFailed source → ⊥) where

@@ -1,14 +1,19 @@
 -- What words list and number.
-use Rattle.std.proofs.Common.{◌≡◌, ℕ, ◌<◌, ◌≤◌, ◌^◌, List, [], ◌∷◌, ◌++◌, length, refl, ap, sym, ◌∙◌, subst, inl, inr, arith, append_assoc, length-append}
+use Rattle.std.proofs.Common.{◌≡◌, ℕ, ◌<◌, ◌≤◌, ◌^◌, List, [], ◌∷◌, ◌++◌, length, refl, ap, sym, ◌∙◌, subst, inl, inr, Option, None, Some, arith, append_assoc, length-append}
 use Rattle.std.specs.List.{after_first, before_first, position_or_len, slice_split}
 use Rattle.std.proofs.lemmas.List.Splits.{slice_split_first, slice_split_none}
 use Rattle.std.proofs.lemmas.List.Sums.{fails_before_first}
 use Rattle.pgas_top.specs.Commands.{AreSources, is_comma}
-use Rattle.pgas_top.specs.Options.{HasNumber, IsNumberWord, Setting}
+use Rattle.pgas_top.specs.Options.{HasNumber, IsNumberOf, IsNumberWord, Setting}
 
 -- a word is one number
 pub number_one : (word : List ℕ) (one other : ℕ) → IsNumberWord word one → IsNumberWord word other → one ≡ other
 number_one word one other is also = sym is.1 ∙ also.1
+
+-- and so is a word that may be missing
+pub IsNumberOf-one : (word : Option (List ℕ)) (one other : ℕ) → IsNumberOf word one → IsNumberOf word other → one ≡ other
+IsNumberOf-one None one other is also = absurd is
+IsNumberOf-one (Some word) one other is also = number_one word one other is also
 
 -- and so is the value of the option with a name
 pub HasNumber-one : (options : List Setting) (name : List ℕ) (one other : ℕ) → HasNumber options name one → HasNumber options name other → one ≡ other

@@ -10,11 +10,14 @@ pub data Request : Type 0 where
   Plain : (sources : List ℕ) → Request
   -- the replies to the script
   Run : Request
+  -- whether the steps are a run of the epoch machine, and what they list
+  Check : Request
   -- the edge list that the seed has, with so many vertices and edges
   Make : (seed vertices edges : ℕ) → Request
 
 abbrev pub request_of : Command → Request
 request_of (command.Plain sources) = Plain sources.items
+request_of command.Check = Check
 request_of (command.Make seed vertices edges) = Make seed vertices edges
 
 abbrev pub is_comma : ℕ → Bool
@@ -46,10 +49,12 @@ pub record NameMake (words : List (List ℕ)) (seed vertices edges : ℕ) : Type
 abbrev pub Names : List (List ℕ) → Request → Type 0
 Names words (Plain sources) = (rest : List (List ℕ)) × (words ≡ codes "plain" ∷ rest) × NamePlain rest sources
 Names words Run = words ≡ codes "run" ∷ []
+Names words Check = words ≡ codes "check" ∷ []
 Names words (Make seed vertices edges) = (rest : List (List ℕ)) × (words ≡ codes "make" ∷ rest) × NameMake rest seed vertices edges
 
 -- commands that need one thread alone
 abbrev pub NeedsOneThread : Request → Type 0
 NeedsOneThread (Plain sources) = Unit {0}
 NeedsOneThread Run = ⊥
+NeedsOneThread Check = Unit {0}
 NeedsOneThread (Make seed vertices edges) = Unit {0}

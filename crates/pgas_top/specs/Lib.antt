@@ -4,6 +4,10 @@ pub use Rattle.line_text.specs.Readings
 pub use Rattle.line_text.specs.Texts
 pub use Rattle.levels_engine.specs.Levels
 pub use Rattle.levels_engine.specs.Walks
+pub use Rattle.run_text.specs.CheckText
+pub use Rattle.run_text.specs.Checks
+pub use Rattle.run_text.specs.RunText
+pub use Rattle.run_text.specs.Runs
 pub use Rattle.script_engine.specs.Answers
 pub use Rattle.script_engine.specs.Shown
 pub use Rattle.script_text.specs.Replies
@@ -12,6 +16,7 @@ pub use Rattle.script_text.specs.ScriptText
 pub use Rattle.shared_io.specs.Counts
 pub mod Commands
 pub mod Devices
+pub mod Forms
 pub mod LevelsText
 pub mod MadeText
 pub mod Options

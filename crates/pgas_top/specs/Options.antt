@@ -1,5 +1,5 @@
 -- Words as options: `--NAME VALUE` in two words, or `--NAME=VALUE` in one.
-use Rattle.std.specs.Prelude.{◌≡◌, ℕ, ◌==◌, nat_lt, Bool, List, [], ◌∷◌, ◌⊎◌, length, if◌then◌else◌}
+use Rattle.std.specs.Prelude.{◌≡◌, ℕ, ◌==◌, nat_lt, Bool, List, [], ◌∷◌, ◌⊎◌, length, if◌then◌else◌, Option, None, Some}
 use Rattle.std.specs.List.{after_first, before_first, position_or_len}
 use Rattle.std.specs.Str.Parse.{IsNumeral, digits_value}
 
@@ -30,6 +30,11 @@ options_of (word ∷ next ∷ rest) =
 -- the word is one or more decimal digits, which write the number
 abbrev pub IsNumberWord : List ℕ → ℕ → Type 0
 IsNumberWord word number = IsNumeral 10 word × (digits_value 10 word ≡ number)
+
+-- the word is there, and is this number
+abbrev pub IsNumberOf : Option (List ℕ) → ℕ → Type 0
+IsNumberOf None number = ⊥
+IsNumberOf (Some word) number = IsNumberWord word number
 
 -- the first option with the name has this number for its value
 abbrev pub HasNumber : List Setting → List ℕ → ℕ → Type 0

@@ -4,15 +4,17 @@ use Rattle.edge_text.specs.Edges.{PlainEdges}
 use Rattle.edge_text.specs.Written.{edges_text}
 use Rattle.edge_text.specs.EdgeText.{IsEdgeText, CanGoOn, IsRefused as EdgesAreRefused}
 use Rattle.levels_engine.specs.Draws.{made_list}
-use Rattle.line_text.specs.declared.faults.TextFault.TheVariants.{BadLine as BadEdges, TooLarge as TooLargeEdges}
+use Rattle.line_text.specs.declared.faults.TextFault.TheVariants.{BadLine as BadText, TooLarge as TooLargeText}
+use Rattle.run_text.specs.CheckText.{IsCheckText}
+use Rattle.run_text.specs.RunText.{HasRun, CanGoOn as RunCanGoOn, IsRefused as RunIsRefused}
+use Rattle.run_text.specs.Runs.{PlainRun}
 use Rattle.script_engine.specs.Answers.{IsAnswer}
-use Rattle.script_text.specs.declared.faults.ScriptFault.TheVariants.{BadLine, TooLarge as TooLargeScript}
 use Rattle.script_text.specs.declared.replies.Replies.{Replies}
 use Rattle.script_text.specs.Replies.{replies_text}
 use Rattle.script_text.specs.Scripts.{PlainScript}
 use Rattle.script_text.specs.ScriptText.{HasScript, IsOpen, IsRefused as ScriptIsRefused}
 use Rattle.shared_io.specs.declared.limits.TooKind.{TooKind}
-use Rattle.pgas_top.specs.Commands.{Names, Request, Plain, Run, Make}
+use Rattle.pgas_top.specs.Commands.{Names, Request, Plain, Run, Check, Make}
 use Rattle.pgas_top.specs.Devices.{SourceChange, SinkChange, SourceFailed, SinkFailed, SinkRefused, IsUnread, IsUnwritten, WasSteady}
 use Rattle.pgas_top.specs.LevelsText.{IsLevelsText}
 use Rattle.pgas_top.specs.Statuses.{line_of, IsTold}
@@ -23,30 +25,34 @@ use Rattle.pgas_top.specs.declared.statuses.Status.TheVariants.{Done, BadWords, 
 abbrev pub IsRepliesText : PlainScript → List ℕ → Type 0
 IsRepliesText script text = (replies : Replies) × IsAnswer script replies × (text ≡ replies_text replies)
 
--- What is left of the source is whole and accepted. What stands behind a script's line `end` is no part of it. A command
+-- What is left of the source is whole and accepted. What stands behind the line `end` of a script or a run is no part of it. A command
 -- that reads nothing accepts everything.
 abbrev pub Accepts : Request → Option (List ℕ) → Type 0
 Accepts (Plain sources) left = (input : List ℕ) × (left ≡ Some input) × ((list : PlainEdges) × IsEdgeText input list)
 Accepts Run left = (input : List ℕ) × (left ≡ Some input) × ((script : PlainScript) × HasScript input (Unit {0}) script)
+Accepts Check left = (input : List ℕ) × (left ≡ Some input) × ((run : PlainRun) × HasRun input (Unit {0}) run)
 Accepts (Make seed vertices edges) left = Unit {0}
 
--- What was read is all that the command asks for: an edge list to the end of the input, a script to its line `end`, or
+-- What was read is all that the command asks for: an edge list to the end of the input, a script or a run to its line `end`, or
 -- nothing. The command gives the text for it.
 abbrev pub Completes : Request → List ℕ → Type 0 → List ℕ → Type 0
 Completes (Plain sources) read ended text = ended × ((list : PlainEdges) × IsEdgeText read list × IsLevelsText list sources text)
 Completes Run read ended text = (script : PlainScript) × HasScript read ended script × IsRepliesText script text
+Completes Check read ended text = (run : PlainRun) × HasRun read ended run × IsCheckText run text
 Completes (Make seed vertices edges) read ended text = (read ≡ []) × (text ≡ edges_text (made_list seed vertices edges).edges)
 
 -- what was read is refused at this line, at a byte of it or, where it ended, at its end
 abbrev pub Refuses : Request → List ℕ → Type 0 → ℕ → Type 0
-Refuses (Plain sources) read ended line = EdgesAreRefused read ended (BadEdges line)
-Refuses Run read ended line = ScriptIsRefused read ended (BadLine line)
+Refuses (Plain sources) read ended line = EdgesAreRefused read ended (BadText line)
+Refuses Run read ended line = ScriptIsRefused read ended (BadText line)
+Refuses Check read ended line = RunIsRefused read ended (BadText line)
 Refuses (Make seed vertices edges) read ended line = ⊥
 
 -- what was read exceeds this limit first, at this line
 abbrev pub Exceeds : Request → List ℕ → Type 0 → TooKind → ℕ → Type 0
-Exceeds (Plain sources) read ended kind line = EdgesAreRefused read ended (TooLargeEdges kind line)
-Exceeds Run read ended kind line = ScriptIsRefused read ended (TooLargeScript kind line)
+Exceeds (Plain sources) read ended kind line = EdgesAreRefused read ended (TooLargeText kind line)
+Exceeds Run read ended kind line = ScriptIsRefused read ended (TooLargeText kind line)
+Exceeds Check read ended kind line = RunIsRefused read ended (TooLargeText kind line)
 Exceeds (Make seed vertices edges) read ended kind line = ⊥
 
 -- the status is that of the refusal of the input, which is whole
@@ -55,10 +61,11 @@ Rejects command input (BadInput line) = Refuses command input (Unit {0}) line
 Rejects command input (TooLarge kind line) = Exceeds command input (Unit {0}) kind line
 Rejects command input status = ⊥
 
--- no refusal stands at a byte of what was read, and a script has no line `end` in it
+-- no refusal stands at a byte of what was read, and a script or a run has no line `end` in it
 abbrev pub Admits : Request → List ℕ → Type 0
 Admits (Plain sources) read = CanGoOn read
 Admits Run read = IsOpen read
+Admits Check read = RunCanGoOn read
 Admits (Make seed vertices edges) read = ⊥
 
 -- Nothing was asked for once a refusal or a line `end` stood: what was read but the last piece could go on.
@@ -73,6 +80,7 @@ pub record WasAskedFor (command : Request) (read : List ℕ) : Type 0 where
 abbrev pub IsNeeded : Request → List ℕ → Type 0
 IsNeeded (Plain sources) read = WasAskedFor (Plain sources) read
 IsNeeded Run read = WasAskedFor Run read
+IsNeeded Check read = WasAskedFor Check read
 IsNeeded (Make seed vertices edges) read = read ≡ []
 
 -- the front of the text
@@ -114,9 +122,12 @@ pub record IsUnknown (offered : Request → Type 0) (words : List (List ℕ)) (s
   pub unread : IsUnread source
   pub unwritten : IsUnwritten sink
 
--- by the words: the outcome of the command that they name, or bad words
+-- By the words: the outcome of the command that they name, or bad words. Where memory is wanted while the words are read, nothing is
+-- read or written.
 abbrev pub Answers : (Request → Type 0) → List (List ℕ) → SourceChange → SinkChange → Status → Type 0
 Answers offered words source sink BadWords = IsUnknown offered words source sink
+Answers offered words source sink OutOfMemory =
+    (IsUnread source × IsUnwritten sink) ⊎ ((command : Request) × offered command × Names words command × Ran command source sink OutOfMemory)
 Answers offered words source sink status = (command : Request) × offered command × Names words command × Ran command source sink status
 
 -- The outcome of a run: words, what the source, the sink and the sink for faults tell before and after it, and the status.

@@ -3,8 +3,6 @@ use Rattle.std.specs.Fmt.{decimal}
 use Rattle.std.specs.Io.KnownBytes.{Appends}
 use Rattle.line_text.specs.declared.faults.TextFault.{TextFault}
 use Rattle.line_text.specs.declared.faults.TextFault.TheVariants as text
-use Rattle.script_text.specs.declared.faults.ScriptFault.{ScriptFault}
-use Rattle.script_text.specs.declared.faults.ScriptFault.TheVariants as script
 use Rattle.shared_io.specs.declared.limits.TooKind.{TooKind}
 use Rattle.shared_io.specs.declared.limits.TooKind.TheVariants.{Id, Edges, Bytes, Weight, Calls, Steps}
 use Rattle.shared_io.specs.declared.sinks.SinkFault.{SinkFault}
@@ -57,13 +55,6 @@ text_status (text.BadLine line) = BadInput line
 text_status (text.TooLarge kind line) = TooLarge kind line
 text_status text.ReadFault = ReadFault
 text_status text.OutOfMemory = OutOfMemory
-
--- the status that a fault of the reader of scripts comes out as
-abbrev pub script_status : ScriptFault → Status
-script_status (script.BadLine line) = BadInput line
-script_status (script.TooLarge kind line) = TooLarge kind line
-script_status script.ReadFault = ReadFault
-script_status script.OutOfMemory = OutOfMemory
 
 -- the status that a fault of the sink comes out as
 abbrev pub sink_status : SinkFault → Status

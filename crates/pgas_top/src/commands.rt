@@ -1,13 +1,22 @@
-ghost use Rattle.std.specs.Prelude.{◌≡◌, ℕ, List, ◌≤◌, ◌<◌, ◌^◌, [], ◌++◌, ◌∷◌, ◌↔◌, IsTrue, map, string_bytes, length, MatchOption, true, false};
+ghost use Rattle.std.specs.Prelude.{◌≡◌, ℕ, List, ◌≤◌, ◌<◌, ◌^◌, [], ◌++◌, ◌∷◌, ◌↔◌, IfOk, IsTrue, codes, map, string_bytes, length, MatchOption, true, false};
 ghost use Rattle.std.specs.List.{slice_split};
-ghost use Rattle.pgas_top.specs.Commands.{AreSources, NameMake, NamePlain, Names, NeedsOneThread, Request, is_comma, request_of};
-ghost use Rattle.pgas_top.specs.Options.{IsNumberWord};
+ghost use Rattle.clap.specs.Walk.{first_of, rows_of};
+ghost use Rattle.clap.specs.Words.{found_of};
+ghost use Rattle.pgas_top.specs.Commands.{AreSources, Make, NameMake, NamePlain, Names, NeedsOneThread, Plain, Request, is_comma, request_of};
+ghost use Rattle.pgas_top.specs.Forms.{AreNumbers};
+ghost use Rattle.pgas_top.specs.Options.{IsNumberOf, IsNumberWord};
 
-use crate::options::{count_options, number, number_named};
+use crate::forms::{find, make_form, plain_form};
+use crate::options::{count_options, number};
 use arrayvec::ArrayVec;
+use clap::ArgMatches;
+use std::alloc::{AllocError, Global};
 
 /// The greatest vertex id, 2^24 - 1.
 const GREATEST_ID: u64 = 0xff_ffff;
+
+/// How many options `make` has.
+const MAKE_OPTIONS: usize = 3;
 
 /// A command that needs one thread alone, with what its words say.
 #[derive(Debug, Drop)]
@@ -16,6 +25,8 @@ pub enum Command {
     Plain {
         sources: ArrayVec<u32, 64>,
     },
+    /// Whether steps are a run of the epoch machine.
+    Check,
     /// The edge list that the seed has.
     Make {
         seed: u64,
@@ -24,17 +35,20 @@ pub enum Command {
     },
 }
 
-/// The command of one thread that the words name, or `None` where they name none.
-pub fn command_of(words: &[String]) -> Option<Command>
-    ensures { MatchOption result
+/// The command of one thread that the words name, or `None` where they name none. An error is want of memory.
+pub fn command_of(alloc: Global, words: &[String]) -> Result<Option<Command>, AllocError>
+    ensures { IfOk result (λ named. MatchOption named
         ((request : Request) → NeedsOneThread request → Names (map string_bytes words.now) request → ⊥)
-        (λ command. NeedsOneThread (request_of command) × Names (map string_bytes words.now) (request_of command)) }
+        (λ command. NeedsOneThread (request_of command) × Names (map string_bytes words.now) (request_of command))) }
 {
-    let (name, rest) = words.split_first()?;
+    let Some((name, rest)) = words.split_first() else {
+        return Ok(None);
+    };
     match name.as_str() {
-        "plain" => plain_command(rest),
-        "make" => make_command(rest),
-        _ => None,
+        "plain" => plain_command(alloc, rest),
+        "check" => Ok(check_command(rest)),
+        "make" => make_command(alloc, rest),
+        _ => Ok(None),
     }
 }
 
@@ -52,31 +66,73 @@ pub fn is_run(words: &[String]) -> bool
 }
 
 /// `plain SOURCES`.
-fn plain_command(words: &[String]) -> Option<Command>
-    ensures { MatchOption result
+fn plain_command(alloc: Global, words: &[String]) -> Result<Option<Command>, AllocError>
+    ensures { IfOk result (λ named. MatchOption named
         ((sources : List ℕ) → NamePlain (map string_bytes words.now) sources → ⊥)
-        (λ command. (sources : List ℕ) × (request_of command ≡ Request.Plain sources) × NamePlain (map string_bytes words.now) sources) }
+        (λ command. (sources : List ℕ) × (request_of command ≡ Plain sources) × NamePlain (map string_bytes words.now) sources)) }
+{
+    // Clap would let a `--` stand beside the word.
+    if words.len() != 1 {
+        return Ok(None);
+    }
+    match find(plain_form(alloc)?, words)? {
+        Some(matches) => Ok(plain_of(&matches)),
+        None => Ok(None),
+    }
+}
+
+/// What `plain` was found to ask for.
+fn plain_of(matches: &ArgMatches<'_>) -> Option<Command>
+    ensures { MatchOption result
+        ((text : List ℕ) (sources : List ℕ) → first_of (codes "sources") (rows_of (found_of matches.now)) ≡ Some text → AreSources (slice_split is_comma text) sources → length sources ≤ 64 → ⊥)
+        (λ command. (text : List ℕ) × (sources : List ℕ) × (first_of (codes "sources") (rows_of (found_of matches.now)) ≡ Some text) × (request_of command ≡ Plain sources) × AreSources (slice_split is_comma text) sources × (length sources ≤ 64)) }
+{
+    match matches.get_str("sources") {
+        Some(word) => match sources_of(word) {
+            Some(sources) => Some(Command::Plain { sources }),
+            None => None,
+        },
+        None => None,
+    }
+}
+
+/// `check`.
+fn check_command(words: &[String]) -> Option<Command>
+    ensures { MatchOption result
+        (map string_bytes words.now ≡ [] → ⊥)
+        (λ command. (request_of command ≡ Request.Check) × (map string_bytes words.now ≡ [])) }
 {
     match words {
-        [word] => Some(Command::Plain {
-            sources: sources_of(word.as_str())?,
-        }),
+        [] => Some(Command::Check),
         _ => None,
     }
 }
 
 /// `make --seed N --vertices N --edges N`.
-fn make_command(words: &[String]) -> Option<Command>
-    ensures { MatchOption result
+fn make_command(alloc: Global, words: &[String]) -> Result<Option<Command>, AllocError>
+    ensures { IfOk result (λ named. MatchOption named
         ((seed vertices edges : ℕ) → NameMake (map string_bytes words.now) seed vertices edges → ⊥)
-        (λ command. (seed : ℕ) × (vertices : ℕ) × (edges : ℕ) × (request_of command ≡ Request.Make seed vertices edges) × NameMake (map string_bytes words.now) seed vertices edges) }
+        (λ command. (seed : ℕ) × (vertices : ℕ) × (edges : ℕ) × (request_of command ≡ Make seed vertices edges) × NameMake (map string_bytes words.now) seed vertices edges)) }
 {
-    if count_options(words) != 3 {
-        return None;
+    // Clap would let a `--` stand behind the options, which counts as one here.
+    if count_options(words) != MAKE_OPTIONS {
+        return Ok(None);
     }
-    let seed = number_named(words, "--seed", u64::MAX)?;
-    let vertices = number_named(words, "--vertices", 1 << 24)? as u32;
-    let edges = number_named(words, "--edges", 1 << 25)? as u32;
+    match find(make_form(alloc)?, words)? {
+        Some(matches) => Ok(make_of(&matches)),
+        None => Ok(None),
+    }
+}
+
+/// What `make` was found to ask for.
+fn make_of(matches: &ArgMatches<'_>) -> Option<Command>
+    ensures { MatchOption result
+        ((seed vertices edges : ℕ) → AreNumbers (rows_of (found_of matches.now)) seed vertices edges → ⊥)
+        (λ command. (seed : ℕ) × (vertices : ℕ) × (edges : ℕ) × (request_of command ≡ Make seed vertices edges) × AreNumbers (rows_of (found_of matches.now)) seed vertices edges) }
+{
+    let seed = number_of(matches, "seed", u64::MAX)?;
+    let vertices = number_of(matches, "vertices", 1 << 24)? as u32;
+    let edges = number_of(matches, "edges", 1 << 25)? as u32;
     if vertices == 0 {
         return None;
     }
@@ -85,6 +141,18 @@ fn make_command(words: &[String]) -> Option<Command>
         vertices,
         edges,
     })
+}
+
+/// The number that was found for the option, or `None` where there is none up to the greatest.
+fn number_of(matches: &ArgMatches<'_>, name: &str, greatest: u64) -> Option<u64>
+    ensures { MatchOption result
+        ((n : ℕ) → IsNumberOf (first_of name.now (rows_of (found_of matches.now))) n → n ≤ greatest → ⊥)
+        (λ n. IsNumberOf (first_of name.now (rows_of (found_of matches.now))) n × (n ≤ greatest)) }
+{
+    match matches.get_str(name) {
+        Some(word) => number(word, greatest),
+        None => None,
+    }
 }
 
 /// The vertices that a word lists, parted by single commas, or `None` where a part is no vertex or there

@@ -6,6 +6,7 @@
 #![tactic(auto)]
 
 mod commands;
+mod forms;
 mod laws;
 mod levels_text;
 mod made_lists;

@@ -8,6 +8,7 @@ use crate::levels_text::write_levels;
 use crate::statuses::Status;
 use edge_text::read_edges;
 use levels_engine::plain;
+use run_text::{check_run, read_run, write_checked};
 use script_engine::run_script;
 use script_text::{read_script, write_replies};
 use shared_io::{Gate, Source};
@@ -31,6 +32,18 @@ pub(crate) fn levels_made<S: Source>(
     drop(edges);
     let text = write_levels(alloc, levels.as_slice())?;
     Ok(text)
+}
+
+/// The text of what the run that the source has lists, and whether it is one, or the status in its place.
+pub(crate) fn check_made<S: Source>(alloc: Global, source: &mut S) -> Result<Vec<u8>, Status>
+    ensures { IsMadeText Request.Check
+        (source_change S.left S.faults source.old source.new)
+        result }
+{
+    let run = read_run(alloc, source)?;
+    let checked = check_run(alloc, &run)?;
+    let listed = write_checked(alloc, &checked, run.steps.len())?;
+    Ok(listed.into_bytes())
 }
 
 /// The text of the replies to the script that the source has, or the status in its place.

@@ -1,6 +1,6 @@
 //! Words as options: `--NAME VALUE` in two words, or `--NAME=VALUE` in one.
 ghost use Rattle.std.specs.Prelude.{◌≡◌, ℕ, ◌<◌, ◌≤◌, List, ◌∷◌, length, drop, map, string_bytes, MatchOption};
-ghost use Rattle.pgas_top.specs.Options.{IsNumberWord, HasNumber, options_of};
+ghost use Rattle.pgas_top.specs.Options.{IsNumberWord, options_of};
 
 /// An option, and the place of the word behind it.
 #[derive(Clone, Copy)]
@@ -48,24 +48,6 @@ pub fn count_options(words: &[String]) -> usize
         count += 1;
     }
     count
-}
-
-/// The number of the first option with the name, or `None` where there is no such option, or its value is
-/// no number or above the greatest.
-pub fn number_named(words: &[String], name: &str, greatest: u64) -> Option<u64>
-    ensures { MatchOption result
-        ((n : ℕ) → HasNumber (options_of (map string_bytes words.now)) name.now n → n ≤ greatest → ⊥)
-        (λ n. HasNumber (options_of (map string_bytes words.now)) name.now n × (n ≤ greatest)) }
-{
-    let mut at = 0;
-    while at < words.len() {
-        let option = option_at(words, at);
-        if option.name == name {
-            return number(option.value, greatest);
-        }
-        at = option.next;
-    }
-    None
 }
 
 /// The number that the word is, or `None` where it is none or above the greatest. A number is one or more

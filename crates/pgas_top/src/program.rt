@@ -6,7 +6,7 @@ ghost use Rattle.pgas_top.specs.Outcome.{Outcome, Ran};
 
 use crate::commands::{Command, command_of, is_run};
 use crate::made_lists::write_made;
-use crate::made_texts::{levels_made, replies_made};
+use crate::made_texts::{check_made, levels_made, replies_made};
 use crate::statuses::{Status, report};
 use shared_io::{Gate, Sink, Source, write_whole};
 use std::alloc::Global;
@@ -51,11 +51,16 @@ pub fn run_plain<S: Source, K: Sink, F: Sink>(
         (sink_change F.taken F.faults F.refusals faults.old faults.new)
         result }
 {
-    match command_of(words) {
+    let named = match command_of(alloc, words) {
+        Ok(named) => named,
+        Err(_) => return report(Status::OutOfMemory, faults),
+    };
+    match named {
         Some(Command::Plain { sources }) => report(
             run_levels(alloc, sources.as_slice(), source, sink),
             faults,
         ),
+        Some(Command::Check) => report(run_check(alloc, source, sink), faults),
         Some(
             Command::Make {
                 seed,
@@ -81,6 +86,16 @@ fn run_levels<S: Source, K: Sink>(
         result }
 {
     write_out(levels_made(alloc, sources, source), sink)
+}
+
+/// The command `check`: reads steps to the line `end`, and writes what they list and whether they are a run.
+fn run_check<S: Source, K: Sink>(alloc: Global, source: &mut S, sink: &mut K) -> Status
+    ensures ran { Ran Request.Check
+        (source_change S.left S.faults source.old source.new)
+        (sink_change K.taken K.faults K.refusals sink.old sink.new)
+        result }
+{
+    write_out(check_made(alloc, source), sink)
 }
 
 /// The command `run`: reads the script to its line `end`, and writes the text of its replies.

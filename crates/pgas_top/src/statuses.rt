@@ -6,7 +6,6 @@ ghost use Rattle.pgas_top.specs.Statuses.{number_of, line_of, limit_name, IsTold
 use arrayvec::ArrayString;
 use itoa::Buffer;
 use line_text::TextFault;
-use script_text::ScriptFault;
 use shared_io::{Sink, SinkFault, TooKind, write_whole};
 use std::alloc::AllocError;
 
@@ -85,22 +84,6 @@ impl From<TextFault> for Status {
             TextFault::TooLarge { kind, line } => Status::TooLarge { kind, line },
             TextFault::ReadFault => Status::ReadFault,
             TextFault::OutOfMemory => Status::OutOfMemory,
-        }
-    }
-}
-
-impl From<ScriptFault> for Status {
-    ghost use Rattle.std.specs.Prelude.{◌≡◌};
-    ghost use Rattle.pgas_top.specs.Statuses.{script_status};
-
-    ghost from_gives = { λ fault status. status ≡ script_status fault };
-
-    fn from(fault: ScriptFault) -> Status {
-        match fault {
-            ScriptFault::BadLine { line } => Status::BadInput { line },
-            ScriptFault::TooLarge { kind, line } => Status::TooLarge { kind, line },
-            ScriptFault::ReadFault => Status::ReadFault,
-            ScriptFault::OutOfMemory => Status::OutOfMemory,
         }
     }
 }

@@ -100,7 +100,7 @@ const BAG_REPLIES: &str = "caller 0\nadded\nadded\ntook 5\nleft 6\n";
 
 #[test]
 fn texts_are_written(rt: HostRuntime) -> Result<(), Fail> {
-    let cases: [(&[&str], &str, &str); 11] = [
+    let cases: [(&[&str], &str, &str); 13] = [
         (&["plain", "0"], PATH, PATH_LEVELS),
         (&["plain", "0"], "", "0 0\n# reached 1 depth 0\n"),
         (&["plain", "5"], "0 1\n", "5 0\n# reached 1 depth 0\n"),
@@ -128,6 +128,23 @@ fn texts_are_written(rt: HostRuntime) -> Result<(), Fail> {
             &["make", "--edges=3", "--seed", "0", "--vertices=010"],
             "",
             "1 4\n6 7\n1 3\n",
+        ),
+        (
+            &[
+                "make",
+                "--vertices=1",
+                "--edges",
+                "01",
+                "--seed",
+                "18446744073709551615",
+            ],
+            "",
+            "0 0\n",
+        ),
+        (
+            &["make", "--vertices=16777216", "--edges=0", "--seed=0"],
+            "",
+            "",
         ),
         (&["run"], DEQUE, DEQUE_REPLIES),
         (&["run"], LIST, LIST_REPLIES),
@@ -168,7 +185,7 @@ fn bad_lines_are_told(rt: HostRuntime) -> Result<(), Fail> {
         ),
         (
             &["run"],
-            "pgas 1\nobject bag 1 1 1\ncallers 2\nend\n",
+            "pgas 1\nobject list 1 2 2\ncallers 2\nend\n",
             "pgas: bad line 3\n",
         ),
         (
@@ -208,6 +225,9 @@ fn bad_words_are_told(rt: HostRuntime) -> Result<(), Fail> {
         "plain -h",
         "plain --help",
         "plain -- 0",
+        "plain 0 --",
+        "plain --",
+        "plain -",
         "plan 0",
         "run x",
         "run --help",
@@ -228,6 +248,13 @@ fn bad_words_are_told(rt: HostRuntime) -> Result<(), Fail> {
         "make --seed 0 --vertices 1 --edge 0",
         "make --seed 0 --vertices 1 -edges 0",
         "make --seed= --vertices 1 --edges 0",
+        "make --seed=0 --seed=0 --vertices=1 --edges=0",
+        "make --seed=0 --vertices=1 --edges=0 --",
+        "make --s 0 --vertices 1 --edges 0",
+        "make --seed 0 --vertices 1 --edges -",
+        "make --seed 0 --vertices --edges 1 0",
+        "make 0 1 0",
+        "make --help",
     ];
     for text in cases {
         check_bad_words(&rt, text)?;
