@@ -27,13 +27,17 @@ constexpr std::uint32_t CAPACITY = 1024; // of the deque
 constexpr std::uint32_t SEGMENTS = 4;    // of the bag, in each locale
 constexpr std::uint32_t ROOM = 1024;     // of a segment
 
-// One mutex round a deque.
-class LockedDeque {
+// Takes the oldest item of a deque, and the newest of a vector.
+inline void take_one(std::deque<std::uint64_t> &items) { items.pop_front(); }
+inline void take_one(std::vector<std::uint64_t> &items) { items.pop_back(); }
+
+// One mutex round a collection.
+template <class Items> class Locked {
     std::mutex mutex;
-    std::deque<std::uint64_t> items;
+    Items items;
 
   public:
-    explicit LockedDeque(std::uint32_t) {}
+    explicit Locked(std::uint32_t = 0) {}
     void put(std::uint32_t, std::uint64_t item) {
         std::lock_guard<std::mutex> guard(mutex);
         items.push_back(item);
@@ -41,29 +45,12 @@ class LockedDeque {
     bool take(std::uint32_t) {
         std::lock_guard<std::mutex> guard(mutex);
         if (items.empty()) return false;
-        items.pop_front();
+        take_one(items);
         return true;
     }
 };
-
-// One mutex round a vector.
-class LockedVector {
-    std::mutex mutex;
-    std::vector<std::uint64_t> items;
-
-  public:
-    explicit LockedVector(std::uint32_t = 0) {}
-    void put(std::uint32_t, std::uint64_t item) {
-        std::lock_guard<std::mutex> guard(mutex);
-        items.push_back(item);
-    }
-    bool take(std::uint32_t) {
-        std::lock_guard<std::mutex> guard(mutex);
-        if (items.empty()) return false;
-        items.pop_back();
-        return true;
-    }
-};
+using LockedDeque = Locked<std::deque<std::uint64_t>>;
+using LockedVector = Locked<std::vector<std::uint64_t>>;
 
 // A mutex and a vector for each thread, on cache lines of their own. Nobody takes another's items.
 class OwnVectors {
