@@ -97,14 +97,14 @@ module _ (s : State) (m : Map) (sound : IsSound s m) (held : AreHeld s) (c : ℕ
   other_header p head is d q h =
       ⊎_elim (λ e. absurd (is (ap (λ x. (s.words.header x).state) (sym e.1) ∙ h.shown))) (λ e. let ne = e.1 in ap (λ x. x.state) (place_there s.words.header p head q ne) ∙ h.shown) (same_place_tells q p)
 
-  hand_not_shown : (p : Place) → is_among p ((s.seat c).hand) ≡ true → (s.words.header p).state ≢ Shown
+  pub hand_not_shown : (p : Place) → is_among p ((s.seat c).hand) ≡ true → (s.words.header p).state ≢ Shown
   hand_not_shown p h e =
       let l = sound.lists c in
       let at = ((sound.listed (at_ InHand c)).all p (subst (λ x. is_among p x ≡ true) (sym l.hand) h)).0 in
       let fits = subst (λ k. Fits k.kind (s.words.header p) (s.tag p)) at (sound.fit p) in
       absurd (cc (fits.state, e))
 
-  owned_not_shown : (p : Place) → is_among p ((s.seat c).owned) ≡ true → (s.words.header p).state ≢ Shown
+  pub owned_not_shown : (p : Place) → is_among p ((s.seat c).owned) ≡ true → (s.words.header p).state ≢ Shown
   owned_not_shown p h e =
       let l = sound.lists c in
       let at = ((sound.listed (at_ IsOwned c)).all p (subst (λ x. is_among p x ≡ true) (sym l.owned) h)).0 in

@@ -224,7 +224,7 @@ module _ (s : State) (m : Map) (sound : IsSound s m) (c : ℕ) where
       (λ p x. ((sound.listed a).all p x).0) (λ p e inside. (sound.listed a).each p e inside)
 
   -- nobody waits to store a link of the list that is collected
-  collect_unwaited : (s.seat c).phase ≡ Advanced → (p : Place) → is_among p (m.content collected_list) ≡ true → (d : ℕ) (w : Wait) → (phased (s.seat d)).list_wait ≡ Some w → w.place ≡ p → ⊥
+  pub collect_unwaited : (s.seat c).phase ≡ Advanced → (p : Place) → is_among p (m.content collected_list) ≡ true → (d : ℕ) (w : Wait) → (phased (s.seat d)).list_wait ≡ Some w → w.place ≡ p → ⊥
   collect_unwaited at p x d w e same =
       let y = wait_deferring (s.seat d) w e in
       let young = sound.aged.young d y.0 y.1 in
@@ -402,7 +402,7 @@ module _ (s : State) (m : Map) (sound : IsSound s m) (c : ℕ) where
       (is_at, among, (tag.0, tag.1, age.1))
 
   -- a walked object isn't one that is being deferred
-  walked_deferring : (p : Place) → (s.seat c).phase ≡ Advanced → is_among p ((s.seat c).reclaim.walked) ≡ true → (d : ℕ) (x : Deferring) → (phased (s.seat d)).deferring ≡ Some x → x.place ≢ p
+  pub walked_deferring : (p : Place) → (s.seat c).phase ≡ Advanced → is_among p ((s.seat c).reclaim.walked) ≡ true → (d : ℕ) (x : Deferring) → (phased (s.seat d)).deferring ≡ Some x → x.place ≢ p
   walked_deferring p at h d x e same =
       let w = walked_at p at h in
       let t = w.2 in

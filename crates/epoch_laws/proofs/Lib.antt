@@ -1,7 +1,7 @@
 pub mod Updates
 mod Timing
 mod TimingMoves
-mod Lists
+pub mod Lists
 mod Locations
 mod Paths
 mod Links
@@ -11,10 +11,10 @@ mod Sound
 mod KeepsTokens
 mod Moves
 mod KeepsTakes
-mod Words
+pub mod Words
 mod KeepsDeferrals
 mod KeepsReclaims
-mod Segments
+pub mod Segments
 mod KeepsStacks
 mod KeepsHomes
 mod Opening
@@ -27,4 +27,11 @@ mod TellsObjects
 pub mod Theorem
 mod Elections
 mod Holds
+pub mod Owners
+pub mod Accounts
+pub mod Counts
+mod KeepsCounts
+mod ReleaseCounts
 pub mod Onward
+pub mod ChainWords
+pub mod Frames

@@ -36,6 +36,10 @@ over p (Reaches xs) h = refl
 over p (Breaks word) h = absurd h
 
 module _ (words : Words) (locale : ℕ) (ends : ℕ → Bool) (tail : Place) where
+  -- the word is that of the pointer with the count of its object's header
+  abbrev IsPresent : ℕ → Type 0
+  IsPresent word = word ≡ word_of (pointer_at (place_in word) (words.header (place_in word)).count)
+
   -- the objects from one on, where those that may follow are left
   pub record IsSegment (left : List Place) (p : Place) (xs : List Place) : Type 0 where
     pub members : (q : Place) → is_among q xs ≡ true → (q ≡ p) ⊎ (is_among q left ≡ true)
@@ -45,15 +49,16 @@ module _ (words : Words) (locale : ℕ) (ends : ℕ → Bool) (tail : Place) whe
     pub last : ends (words.next tail) ≡ true
     pub locales : (q : Place) → is_among q xs ≡ true → (q ≡ p) ⊎ (q.locale ≡ locale)
     pub inner : (q : Place) → is_among q xs ≡ true → q ≢ tail → (is_among (place_in (words.next q)) left ≡ true) × ((place_in (words.next q)).locale ≡ locale)
+        × IsPresent (words.next q)
     pub leads : (new : Place → Option Place) (final : Option Place)
         → ((q : Place) → is_among q xs ≡ true → q ≢ tail → new q ≡ Some (place_in (words.next q))) → new tail ≡ final → Leads new (Some p) xs final
 
-  leads_in : (left : List Place) (word : ℕ) → leads_into words locale left word ≡ true → (is_among (place_in word) left ≡ true) × ((place_in word).locale ≡ locale)
+  leads_in : (left : List Place) (word : ℕ) → leads_into words locale left word ≡ true → (is_among (place_in word) left ≡ true) × ((place_in word).locale ≡ locale) × IsPresent word
   leads_in left word h = go (is_among (place_in word) left) ((place_in word).locale == locale) refl refl h
     where
       go : (a b : Bool) → is_among (place_in word) left ≡ a → ((place_in word).locale == locale) ≡ b → (a && (b && (word == word_of (pointer_at (place_in word) (words.header (place_in word)).count)))) ≡ true
-          → (is_among (place_in word) left ≡ true) × ((place_in word).locale ≡ locale)
-      go true true ea eb h = (ea, eqb-true _ _ eb)
+          → (is_among (place_in word) left ≡ true) × ((place_in word).locale ≡ locale) × IsPresent word
+      go true true ea eb h = (ea, eqb-true _ _ eb, eqb-true _ _ h)
       go true false ea eb h = absurd (cc h)
       go false b ea eb h = absurd (cc h)
 
@@ -70,8 +75,8 @@ module _ (words : Words) (locale : ℕ) (ends : ℕ → Bool) (tail : Place) whe
   }
 
   more_segment : (left : List Place) (p q : Place) (xs : List Place) → p ≢ tail → is_among p left ≡ false → is_among q left ≡ true → q.locale ≡ locale → place_in (words.next p) ≡ q
-      → IsSegment (without q left) q xs → IsSegment left p (p ∷ xs)
-  more_segment left p q xs ne gone among at next seg = record {
+      → IsPresent (words.next p) → IsSegment (without q left) q xs → IsSegment left p (p ∷ xs)
+  more_segment left p q xs ne gone among at next present seg = record {
     members = λ r h.
         ⊎_elim (λ e. inl e) (λ e. inr (within r e.1)) (among_cons r p xs h);
     here = among_here p xs;
@@ -81,8 +86,8 @@ module _ (words : Words) (locale : ℕ) (ends : ℕ → Bool) (tail : Place) whe
     locales = λ r h. ⊎_elim (λ e. inl e) (λ e. inr (⊎_elim (λ f. ap (λ x. x.locale) f ∙ at) (λ f. f) (seg.locales r e.1))) (among_cons r p xs h);
     inner = λ r h other.
         ⊎_elim
-        (λ e. let en : place_in (words.next r) ≡ q = ap (λ x. place_in (words.next x)) e ∙ next in (ap (λ x. is_among x left) en ∙ among, ap (λ x. x.locale) en ∙ at))
-        (λ e. let i = seg.inner r e.1 other in ((among_without (place_in (words.next r)) q left i.0).1, i.1))
+        (λ e. let en : place_in (words.next r) ≡ q = ap (λ x. place_in (words.next x)) e ∙ next in (ap (λ x. is_among x left) en ∙ among, ap (λ x. x.locale) en ∙ at, subst (λ x. IsPresent (words.next x)) (sym e) present))
+        (λ e. let i = seg.inner r e.1 other in ((among_without (place_in (words.next r)) q left i.0).1, i.1, i.2))
         (among_cons r p xs h);
     leads = λ new final steps at_tail.
         (refl, subst (λ f. Leads new f xs final) (sym (steps p (among_here p xs) ne ∙ ap Some next)) (seg.leads new final (λ r h other. steps r (among_more r p xs h) other) at_tail));
@@ -159,7 +164,7 @@ module _ (words : Words) (locale : ℕ) (ends : ℕ → Bool) (tail : Place) whe
       let is : IsLed (led_from p way) = subst IsLed (led_inside n left p true s.0 e) h in
       subst (λ w. IsSegment left p (led_over w)) (sym (led_inside n left p true s.0 e))
       (subst (IsSegment left p) (sym (over p way is))
-      (more_segment left p q (led_over way) ne gone i.0 i.1 refl (led_segment n (without q left) q (gone_without q left) (was_led p way is)))))
+      (more_segment left p q (led_over way) ne gone i.0 i.1 refl i.2 (led_segment n (without q left) q (gone_without q left) (was_led p way is)))))
       (λ e. absurd (subst IsLed (led_inside n left p false s.0 e) h))
       (truth (leads_into words locale left (words.next p))))
       (same_place_tells p tail)

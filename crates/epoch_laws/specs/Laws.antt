@@ -1,5 +1,5 @@
 -- What holds of every run.
-use Rattle.std.specs.Prelude.{◌≤◌, ◌≡◌, ◌<◌, ◌^◌, ℕ, true, false, List}
+use Rattle.std.specs.Prelude.{◌≤◌, ◌≡◌, ◌≢◌, ◌<◌, ◌^◌, ℕ, true, false, List}
 use Rattle.pgas_base.specs.declared.shapes.Shape.{Shape}
 use Rattle.pgas_base.specs.declared.starts.Start.{Start}
 use Rattle.pgas_base.specs.Shapes.{IsShape}
@@ -11,11 +11,15 @@ use Rattle.epoch_laws.specs.Needs.{AllMet}
 use Rattle.epoch_laws.specs.ReclaimSteps.{walk}
 use Rattle.epoch_laws.specs.StackSteps.{stack_pop, looked_top, same_head}
 use Rattle.epoch_laws.specs.HomeSteps.{home_walk}
-use Rattle.epoch_laws.specs.Runs.{IsRun, state_after, items_of}
+use Rattle.epoch_laws.specs.Runs.{IsAllowed, IsRun, outcome, state_after, items_of}
 use Rattle.epoch_laws.specs.Elections.{IsElected}
 use Rattle.epoch_laws.specs.Holds.{AreHeld}
+use Rattle.epoch_laws.specs.Owners.{AreOwned}
+use Rattle.epoch_laws.specs.Accounts.{account, account_of}
 use Rattle.epoch_laws.specs.Sound.{Map, IsSound}
+use Rattle.epoch_laws.specs.Counts.{HasCounts}
 use Rattle.epoch_laws.specs.Told.{IsTold, view_of}
+use Rattle.epoch_laws.specs.Frames.{LeavesOthers}
 use Rattle.epoch_laws.specs.Histories.{IsLegalHistory}
 use Rattle.epoch_laws.specs.Items.{happenings, IsExactRelease}
 
@@ -25,6 +29,9 @@ pub record IsReached (first count : ℕ) (s : State) (items : List Item) : Type 
   pub sound : IsSound s map
   pub elected : IsElected s
   pub held : AreHeld s
+  pub owned : AreOwned s
+  pub said : account count items ≡ account_of s
+  pub current : HasCounts s map.loc
   pub told : IsTold first count (view_of s map.loc) items
 
 -- it holds of every state that a run leaves
@@ -55,6 +62,14 @@ abbrev pub ObjectsAreApart : Type 0
 ObjectsAreApart = (shape : Shape) (start : Start) (seats : ℕ) (steps : List Step)
     → IsShape shape → start.count < 2 ^ 32 → IsRun shape start seats steps
     → (c : ℕ) → TakesNobodys (state_after (opening shape start seats) steps) c
+
+-- a step after a run leaves the other seats what they have and hold
+abbrev pub StepsLeaveOthers : Type 0
+StepsLeaveOthers = (shape : Shape) (start : Start) (seats : ℕ) (steps : List Step)
+    → IsShape shape → start.count < 2 ^ 32 → IsRun shape start seats steps
+    → (step : Step) → IsAllowed (state_after (opening shape start seats) steps) step
+    → (c : ℕ) → c ≢ step.seat
+    → LeavesOthers (state_after (opening shape start seats) steps) (outcome (state_after (opening shape start seats) steps) step).next c
 
 -- the events of every run are a legal history
 abbrev pub EventsAreLegal : Type 0

@@ -9,6 +9,7 @@ pub mod HoldSteps
 pub mod DeferralSteps
 pub mod ReclaimSteps
 pub mod Chains
+pub mod ChainWords
 pub mod StackSteps
 pub mod HomeSteps
 pub mod Steps
@@ -25,4 +26,8 @@ pub mod Looks
 pub mod Holds
 pub mod Sound
 pub mod Told
+pub mod Counts
+pub mod Owners
+pub mod Accounts
+pub mod Frames
 pub mod Laws

@@ -13,7 +13,9 @@ mod steps;
 mod tokens;
 
 pub use events::{EpochEvent, Item};
-pub use laws::{events_are_legal, objects_are_apart, release_is_exact, states_are_sound};
+pub use laws::{
+    events_are_legal, objects_are_apart, release_is_exact, states_are_sound, steps_leave_others,
+};
 pub use steps::{Illegal, Kind, Seen, Step};
 pub use tokens::Token;
 

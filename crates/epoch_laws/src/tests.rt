@@ -1,6 +1,6 @@
 use crate::{
     EpochEvent, Illegal, Item, Kind, Seen, Step, Token, events_are_legal, objects_are_apart,
-    release_is_exact, states_are_sound,
+    release_is_exact, states_are_sound, steps_leave_others,
 };
 use pgas_base::Ptr;
 
@@ -10,6 +10,7 @@ fn the_laws_hold() {
     release_is_exact();
     states_are_sound();
     objects_are_apart();
+    steps_leave_others();
 }
 
 #[test]
