@@ -1,9 +1,8 @@
 -- The ids that a line says keep their limit.
-use Rattle.std.proofs.Common.{◌≡◌, Option, Some, None, subst}
-use Rattle.std.proofs.lemmas.Option.{none-some, same_Some}
+use Rattle.std.proofs.Common.{◌≡◌, Some, subst}
+use Rattle.std.proofs.lemmas.Option.{none-some}
 use Rattle.line_text.specs.Lines.{IsSaid}
 use Rattle.edge_text.specs.declared.edges.Edge.{Edge}
-use Rattle.edge_text.specs.declared.forms.EdgeLine.{EdgeLine}
 use Rattle.edge_text.specs.declared.forms.EdgeLine.TheVariants.{Head as HeadLine, Edge as AnEdge}
 use Rattle.edge_text.specs.declared.forms.Spot.{Spot}
 use Rattle.edge_text.specs.declared.forms.Spot.TheVariants.{First, Version, Direction, Head, From, To, Ends, Whole}

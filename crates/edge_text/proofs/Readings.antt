@@ -1,18 +1,18 @@
 -- A reading of an edge list is one of its text.
-use Rattle.std.proofs.Common.{◌≡◌, ◌⊎◌, ℕ, ◌++◌, List, [], ◌∷◌, Option, Some, None, Result, Ok, Err, MatchResult, true, refl, ap, sym, ◌∙◌, subst, inl, inr, ⊎_elim}
+use Rattle.std.proofs.Common.{◌≡◌, ℕ, ◌++◌, List, [], Option, Result, Ok, Err, ap, sym, ◌∙◌, inl, ⊎_elim}
 use Rattle.std.specs.Io.KnownBytes.{IsAtEnd}
 use Rattle.std.proofs.lemmas.Bool.{false≢true}
 use Rattle.shared_io.specs.Counts.{Rose}
 use Rattle.line_text.specs.declared.faults.TextFault.{TextFault}
 use Rattle.line_text.specs.declared.faults.TextFault.TheVariants.{BadLine, TooLarge, ReadFault, OutOfMemory}
-use Rattle.line_text.specs.Readings.{Reading as TextReading, HasCause as TextCause, IsExcuse, IsRefusal}
+use Rattle.line_text.specs.Readings.{Reading as TextReading, HasCause as TextCause}
 use Rattle.line_text.specs.Texts.{HasText, WasAskedFor as TextWasAskedFor}
 use Rattle.line_text.proofs.Inputs.{means_one as text_means_one}
 use Rattle.line_text.proofs.Sources.{refusal_input}
 use Rattle.edge_text.specs.declared.edges.EdgeList.{EdgeList}
 use Rattle.edge_text.specs.Drawn.{Drawn}
-use Rattle.edge_text.specs.EdgeText.{edge_text, plain_drawn, IsEdgeText, CanGoOn, IsRefused}
-use Rattle.edge_text.specs.Edges.{PlainEdges, plain_edges}
+use Rattle.edge_text.specs.EdgeText.{edge_text, plain_drawn, IsRefused}
+use Rattle.edge_text.specs.Edges.{plain_edges}
 use Rattle.edge_text.specs.Reading.{Reading, WasAskedFor, HasRead, HasCause, MeansOne}
 
 -- a text ends where the input does

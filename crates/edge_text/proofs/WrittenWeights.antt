@@ -16,10 +16,10 @@ use Rattle.line_text.proofs.Written.{decimal_digits, written_stands, written_ope
 use Rattle.edge_text.specs.declared.drafts.Version.TheVariants.{Open, Two}
 use Rattle.edge_text.specs.declared.edges.Edge.{Edge}
 use Rattle.edge_text.specs.declared.forms.EdgeLine.TheVariants.{Head as HeadLine, Edge as AnEdge}
-use Rattle.edge_text.specs.declared.forms.Spot.TheVariants.{First, From, To, Ends, Whole}
+use Rattle.edge_text.specs.declared.forms.Spot.TheVariants.{From, To, Ends, Whole}
 use Rattle.edge_text.specs.Drawn.{Drawn}
 use Rattle.edge_text.specs.Edges.{HasIds, HaveIds, PlainEdges}
-use Rattle.edge_text.specs.EdgeText.{edge_rules, edge_text, plain_drawn, IsEdgeText}
+use Rattle.edge_text.specs.EdgeText.{edge_rules, edge_text, plain_drawn}
 use Rattle.edge_text.specs.Forms.{id_bounds, weight_bounds, edge_grammar, IsSpot}
 use Rattle.edge_text.specs.Written.{weighted_line, head_line, HaveWeights, WeightedReadBack}
 

@@ -1,5 +1,5 @@
 -- Which text is that of an edge list, and where a text is refused.
-use Rattle.std.specs.Prelude.{◌≡◌, ℕ, ◌^◌, Bool, true, false, List, [], ◌∷◌, ◌++◌, Option, Some, None}
+use Rattle.std.specs.Prelude.{◌≡◌, ℕ, ◌^◌, Bool, true, false, List, [], ◌∷◌, ◌++◌, Option, Some}
 use Rattle.shared_io.specs.declared.limits.TooKind.TheVariants.{Edges as TooManyEdges}
 use Rattle.line_text.specs.declared.faults.TextFault.{TextFault}
 use Rattle.line_text.specs.Texts.{Rules, Text, text_of, HasText, IsOpen, IsRefused as TextIsRefused}

@@ -4,7 +4,6 @@ use Rattle.shared_io.specs.declared.limits.TooKind.TheVariants.{Id, Weight}
 use Rattle.line_text.specs.declared.forms.Bounds.{Bounds}
 use Rattle.line_text.specs.declared.forms.Reject.TheVariants.{TooLarge}
 use Rattle.line_text.specs.Lines.{Grammar}
-use Rattle.edge_text.specs.declared.edges.Edge.{Edge}
 use Rattle.edge_text.specs.declared.forms.EdgeLine.{EdgeLine}
 use Rattle.edge_text.specs.declared.forms.EdgeLine.TheVariants.{Head as HeadLine, Edge as AnEdge}
 use Rattle.edge_text.specs.declared.forms.Spot.{Spot}

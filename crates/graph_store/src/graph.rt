@@ -120,7 +120,8 @@ pub fn build(
 ) -> Result<Graph, AllocError>
     requires ids { HaveIds edges.now.edges.items }
     requires sources { All (λ source. source < 2 ^ 24) sources.now }
-    ensures { IfOk result (AreRowsAlong (HasEdge (record { edges = edges.now.edges.items; both = both || edges.now.both })) 0 (vertex_count edges.now.edges.items sources.now)) }
+    ensures rows { IfOk result (AreRowsAlong (HasEdge (record { edges = edges.now.edges.items; both = both || edges.now.both })) 0 (vertex_count edges.now.edges.items sources.now)) }
+    ensures sources { IfOk result (λ graph. All (λ source. source < length graph) sources.now) }
 {
     let vertices = count_vertices(&edges.edges, sources);
     let width = band_width(vertices, current_num_threads(rt));

@@ -187,7 +187,7 @@ module _ {Form Line : Type 0} (G : Grammar Form Line) (IsForm : Form → Type 0)
           },
         )
 
-  -- ---- lines of numbers
+  -- ---- whole lines, one behind the other
 
   pub leads_on : (state mid next : State Form) (one other : List ℕ) → Leads G state one mid → Leads G mid other next → Leads G state (one ++ other) next
   leads_on state mid next one other first then rest = ap (rest_says G state) (append_assoc one other rest) ∙ (first (other ++ rest) ∙ then rest)

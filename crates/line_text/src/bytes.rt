@@ -79,7 +79,7 @@ struct Taken<F> {
     at: usize,
 }
 
-/// Takes lines of numbers from the piece, as many as stand there.
+/// Takes whole lines of the form whose line begins there from the piece, as many as stand there, each at once.
 fn take_lines<L: Copy, F: Form<L>, D: Draft<L, F>>(
     draft: &mut D,
     mut place: Place<F>,

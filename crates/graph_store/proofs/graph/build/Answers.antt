@@ -1,9 +1,11 @@
-use Rattle.std.proofs.Common.{◌≡◌, ◌||◌, ℕ, min, subst, arith}
+use Rattle.std.proofs.Common.{◌≡◌, ◌<◌, ◌||◌, ℕ, length, min, subst, arith}
+use Rattle.std.specs.Prelude.{All}
 use Rattle.edge_text.specs.Edges.{HasEdge}
 use Rattle.graph_store.specs.Bands.{joined}
 use Rattle.graph_store.specs.Rows.{AreRowsAlong}
 use Rattle.graph_store.specs.Vertices.{vertex_count}
 use Rattle.graph_store.proofs.Joined.{AreFull-bands, AreRowsAlong-joined}
+use Rattle.graph_store.proofs.PairLemmas.{AreWithin-sources}
 use Rattle.graph_store.proofs.graph.build.Goals as goal
 
 pub invariant_of-result : goal.invariant_of-result
@@ -24,8 +26,8 @@ invariant_of-result g c =
       rising = rows.rising;
     }
 
-pub returns : goal.returns
-returns g c =
+pub returns-clause-rows : goal.returns-clause-rows
+returns-clause-rows g c =
     let Leads = HasEdge (record { edges = c.args.edges.now.edges.items; both = c.args.both || c.args.edges.now.both }) in
     let width = c.band_width-width.result in
     let vertices = c.count_vertices-vertices.result in
@@ -38,3 +40,11 @@ returns g c =
     let count : vertices ≡ vertex_count c.args.edges.now.edges.items c.args.sources.now = rw c.deref.ensures.value at c.count_vertices-vertices.ensures.count in
     let low : min 0 vertices ≡ 0 = omega arith in
     subst (λ (n : ℕ). AreRowsAlong Leads 0 n (joined bands)) count (subst (λ (n : ℕ). AreRowsAlong Leads n vertices (joined bands)) low rows)
+
+pub returns-clause-sources : goal.returns-clause-sources
+returns-clause-sources g c =
+    let edges = c.args.edges.now.edges.items in
+    let sources = c.args.sources.now in
+    let rows = returns-clause-rows g c in
+    let count : vertex_count edges sources ≡ length (joined c.in_ok-bands.bands.items) = omega (arith, rows.count) in
+    subst (λ (n : ℕ). All (λ (source : ℕ). source < n) sources) count (AreWithin-sources edges sources)

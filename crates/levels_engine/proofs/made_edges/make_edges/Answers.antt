@@ -1,7 +1,6 @@
-use Rattle.std.proofs.Common.{subst, sym, List, ap, ◌∙◌}
+use Rattle.std.proofs.Common.{subst, sym, ap, ◌∙◌}
 use Rattle.std.proofs.lemmas.List.Elements.{All-push}
 use Rattle.edge_text.specs.Edges.{HasIds, HaveIds}
-use Rattle.edge_text.specs.declared.edges.Edge.{Edge}
 use Rattle.levels_engine.specs.Draws.{Drawing}
 use Rattle.levels_engine.proofs.Drawn.{drawn_more}
 use Rattle.levels_engine.proofs.made_edges.make_edges.Goals as goal

@@ -1,17 +1,12 @@
-use Rattle.std.proofs.Common.{◌<◌, ◌∙◌, All, ℕ, List, subst, sym}
+use Rattle.std.proofs.Common.{◌<◌, ℕ, subst, sym}
 use Rattle.std.specs.Prelude.{MatchOption, slice_get}
 use Rattle.std.proofs.lemmas.Result.{IfOk-weaker}
 use Rattle.edge_text.specs.Edges.{HasEdge, plain_edges}
 use Rattle.graph_store.specs.Rows.{HasTarget}
-use Rattle.graph_store.proofs.PairLemmas.{AreWithin-sources}
 use Rattle.levels_engine.specs.Levels.{HasNoLevel, IsLevelNumber}
 use Rattle.levels_engine.specs.Marks.{level_of}
 use Rattle.levels_engine.proofs.Walks.{IsLevelNumber-same, levels_at}
 use Rattle.levels_engine.proofs.plain_levels.plain.Goals as goal
-
-pub search-requires-clause-sources : goal.search-requires-clause-sources
-search-requires-clause-sources c =
-    subst (λ (n : ℕ). All (λ (source : ℕ). source < n) c.args.sources.now) (sym c.in_ok-rows.ensures.rows.count) (AreWithin-sources c.args.edges.now.edges.items c.args.sources.now)
 
 pub search-requires-clause-targets : goal.search-requires-clause-targets
 search-requires-clause-targets c = λ from to h.

@@ -1,7 +1,7 @@
-use Rattle.std.proofs.Common.{ℕ, ◌≡◌, ◌+◌, ◌<◌, ◌≤◌, ◌↔◌, List, length, get_or, subst, sym, arith}
+use Rattle.std.proofs.Common.{ℕ, ◌↔◌, List, get_or, subst, sym, arith}
 use Rattle.std.specs.Prelude.{Contains}
 use Rattle.std.proofs.lemmas.List.{get_or_default}
-use Rattle.graph_store.specs.Rows.{HasTarget, row_of}
+use Rattle.graph_store.specs.Rows.{HasTarget}
 use Rattle.levels_engine.proofs.Frontiers.{frontier_more}
 use Rattle.levels_engine.proofs.search.expand.Goals as goal
 
