@@ -1,9 +1,11 @@
-//! How a bag is opened.
-ghost use Rattle.std.specs.Prelude.{◌≡◌, ◌↔◌, ◌≤◌, [], IfOk, IsErrOf, Some, replicate};
+//! How a bag is opened, and its passes are taken one by one.
+ghost use Rattle.std.specs.Prelude.{◌≡◌, ◌↔◌, ◌+◌, ◌<◌, ◌≤◌, [], ◌∷◌, ◌++◌, IfOk, IsErrOf, Some, length, replicate};
 ghost use Rattle.segment_store.specs.Contents.{Contents};
+ghost use Rattle.pass_table.specs.Passes.{pass_opening};
 ghost use Rattle.shared_bag.specs.Layout.{slots_in, words_of};
 ghost use Rattle.shared_bag.specs.Shapes.{IsIn, IsShape};
-ghost use Rattle.shared_bag.specs.Opened.{IsOpenedWith};
+ghost use Rattle.shared_bag.specs.Bags.{opening_of};
+ghost use Rattle.shared_bag.specs.Opened.{AreOfOpening, IsOpenedWith};
 
 use crate::bags::{Bag, BagPass};
 use crate::clients::Plan;
@@ -118,5 +120,21 @@ impl<K: Keeps> Bag<K> {
             alloc,
         };
         Ok((bag, passes))
+    }
+
+    /// Takes the last pass out of the list, so that its caller can have it apart from the others, as in a thread of its
+    /// own. `close` wants all of them in one list again, in any order.
+    pub fn take_pass(&self, passes: &mut Vec<BagPass<K>>) -> BagPass<K>
+        requires opening { AreOfOpening self.now passes.old.items }
+        requires some { 0 < length passes.old.items }
+        ensures taken { passes.old.items ≡ passes.new.items ++ result ∷ [] }
+        ensures pass { pass_opening result ≡ opening_of self.now }
+        ensures rest { AreOfOpening self.now passes.new.items }
+        ensures count { length passes.new.items + 1 ≡ length passes.old.items }
+    {
+        let Some(pass) = passes.pop() else {
+            unreachable!()
+        };
+        pass
     }
 }

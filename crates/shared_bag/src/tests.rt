@@ -1,8 +1,8 @@
-ghost use Rattle.std.specs.Prelude.{◌≡◌, ◌≤◌, ◌+◌, [], All, length, IfOk, IfSome, vec_capacity, vec_len};
+ghost use Rattle.std.specs.Prelude.{◌≡◌, ◌≤◌, [], All, length, IfOk, vec_capacity, vec_len};
 ghost use mathlib.Core.List.{IsPrefix};
 ghost use Rattle.pass_table.specs.Passes.{IsSamePass, page, pass_opening};
 ghost use Rattle.shared_bag.specs.Bags.{callers_of, opening_of};
-ghost use Rattle.shared_bag.specs.Opened.{IsNewPass, ArePassesOf, AreOfOpening};
+ghost use Rattle.shared_bag.specs.Opened.{AreOfOpening};
 
 use super::*;
 use seq_objects::{AnyItem, Keeps};
@@ -92,16 +92,6 @@ fn work_all<R: Threads + Wait + Sync>(rt: &R, bag: &Bag<AnyItem>, workers: &mut 
     );
 }
 
-// The last of the passes.
-fn take_pass<K: Keeps>(bag: &Bag<K>, passes: &mut Vec<BagPass<K>>) -> Option<BagPass<K>>
-    requires { ArePassesOf bag.now passes.old.items }
-    ensures rest { ArePassesOf bag.now passes.new.items }
-    ensures pass { IfSome result (λ p. IsNewPass bag.now (length passes.new.items) p) }
-    ensures count { IfSome result (λ p. length passes.old.items ≡ length passes.new.items + 1) }
-{
-    passes.pop()
-}
-
 fn close_alone(alloc: Global, bag: Bag<AnyItem>, pass: BagPass<AnyItem>) -> Result<Vec<u64>, Fail>
     requires opening { pass_opening pass ≡ opening_of bag }
     requires alone { callers_of bag ≡ 1 }
@@ -136,11 +126,12 @@ fn workers_of(
     mut passes: Vec<BagPass<AnyItem>>,
     each: u64,
 ) -> Result<Vec<Worker>, Fail>
-    requires { ArePassesOf bag.now passes.items }
+    requires { AreOfOpening bag.now passes.items }
     ensures { IfOk result (λ v. All (λ w. pass_opening w.pass ≡ opening_of bag.now) v.items) }
 {
     let mut workers = Vec::new(alloc);
-    while let Some(pass) = take_pass(bag, &mut passes) {
+    'callers: while !passes.is_empty() {
+        let pass = bag.take_pass(&mut passes);
         let adds_items = pass.caller() % 2 == 0;
         let worker = Worker {
             pass,
@@ -197,7 +188,7 @@ fn open_again(
     segments: u32,
     room: u32,
 ) -> Result<(Bag<AnyItem>, Vec<BagPass<AnyItem>>), BagFault>
-    ensures passes { IfOk result (λ r. ArePassesOf r.0 r.1.items × (length r.1.items ≡ 1)) }
+    ensures passes { IfOk result (λ r. AreOfOpening r.0 r.1.items × (length r.1.items ≡ 1)) }
     ensures alone { IfOk result (λ r. callers_of r.0 ≡ 1) }
 {
     match Bag::open(alloc, locales, segments, room, 1, AnyItem) {
@@ -216,9 +207,7 @@ fn alone(
     ensures { IfOk result (λ r. (pass_opening r.1 ≡ opening_of r.0) × (callers_of r.0 ≡ 1)) }
 {
     let (bag, mut passes) = open_again(alloc, locales, segments, room)?;
-    let Some(pass) = passes.pop() else {
-        return Err("there is no pass".into());
-    };
+    let pass = bag.take_pass(&mut passes);
     Ok((bag, pass))
 }
 
@@ -360,7 +349,7 @@ fn open_two(
     locales: u8,
     room: u32,
 ) -> Result<(Bag<AnyItem>, Vec<BagPass<AnyItem>>), BagFault>
-    ensures passes { IfOk result (λ r. ArePassesOf r.0 r.1.items × (length r.1.items ≡ 2)) }
+    ensures passes { IfOk result (λ r. AreOfOpening r.0 r.1.items × (length r.1.items ≡ 2)) }
     ensures two { IfOk result (λ r. callers_of r.0 ≡ 2) }
 {
     match Bag::open(alloc, locales, 1, room, 2, AnyItem) {
@@ -423,12 +412,8 @@ fn two_passes(
     ensures { IfOk result (λ r. (callers_of r.0 ≡ 2) × (pass_opening r.1 ≡ opening_of r.0) × (pass_opening r.2 ≡ opening_of r.0)) }
 {
     let (bag, mut passes) = open_two(alloc, locales, room)?;
-    let Some(second) = take_pass(&bag, &mut passes) else {
-        return Err("there is no pass".into());
-    };
-    let Some(first) = take_pass(&bag, &mut passes) else {
-        return Err("there is no pass".into());
-    };
+    let second = bag.take_pass(&mut passes);
+    let first = bag.take_pass(&mut passes);
     Ok((bag, first, second))
 }
 
@@ -531,12 +516,8 @@ fn hand_on(bag: &Bag<Even>, giver: &mut BagPass<Even>, taker: &mut BagPass<Even>
 #[test]
 fn even_items_come_out_even(rt: HostRuntime) -> Result<(), Fail> {
     let (bag, mut passes) = Bag::open(rt.alloc(), 1, 1, 2, 2, Even)?;
-    let Some(mut second) = take_pass(&bag, &mut passes) else {
-        return Err("there is no pass".into());
-    };
-    let Some(mut first) = take_pass(&bag, &mut passes) else {
-        return Err("there is no pass".into());
-    };
+    let mut second = bag.take_pass(&mut passes);
+    let mut first = bag.take_pass(&mut passes);
     assert_eq!(rt; bag.try_add(&mut first, 8), Ok(()));
     hand_on(&bag, &mut first, &mut second);
     assert_eq!(rt; half_of_newest(&bag, &mut second), Some(4));

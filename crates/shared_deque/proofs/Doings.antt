@@ -1,5 +1,5 @@
 -- What a step of a known kind does to its caller's seat.
-use Rattle.std.proofs.Common.{ℕ, Bool, true, false, List, ◌<◌}
+use Rattle.std.proofs.Common.{ℕ, Bool, true, false, List}
 use Rattle.std.specs.Prelude.{MatchBool}
 use Rattle.atomic_table.specs.Table.{Me}
 use Rattle.seq_objects.specs.declared.deques.DequeCall.{DequeCall}

@@ -1,14 +1,13 @@
 -- Each kind of step: where its row is met, the rule is kept, and what it tells is so.
-use Rattle.std.proofs.Common.{◌≡◌, ◌≢◌, ◌==◌, ℕ, ◌+◌, ◌-◌, ◌*◌, ◌<◌, ◌≤◌, Bool, true, false, cond, List, [], ◌∷◌, ◌++◌, length, set, refl, ap, ap₂, sym, ◌∙◌, subst, arith, inl, inr, slice_index, length-set}
+use Rattle.std.proofs.Common.{◌≡◌, ◌≢◌, ◌==◌, ℕ, ◌+◌, ◌-◌, ◌<◌, ◌≤◌, Bool, true, false, List, [], ◌∷◌, ◌++◌, length, set, refl, ap, sym, ◌∙◌, subst, arith, inl, inr, slice_index, length-set}
 use Rattle.std.specs.Prelude.{MatchBool}
-use Rattle.std.specs.List.{All}
 use Rattle.std.proofs.lemmas.Bool.Decides.{nat_tests}
 use Rattle.std.proofs.lemmas.List.{append-nil, get_or_past, set-get_or}
 use Rattle.std.proofs.lemmas.List.Elements.{All-nil}
 use mathlib.Core.Logic.{dite}
 use native.Mathlib.Decide.{ℕ_discrete}
 use prog.Atomic.{either}
-use Rattle.atomic_table.specs.Table.{Me, Act, keeps as holding}
+use Rattle.atomic_table.specs.Table.{Me, keeps as holding}
 use Rattle.pass_book.specs.declared.entries.Look.{Look}
 use Rattle.pass_book.specs.Histories.{IsLegal}
 use Rattle.seq_objects.specs.declared.deques.DequeCall.{DequeCall}
@@ -18,19 +17,18 @@ use Rattle.pass_table.specs.declared.views.View.{View}
 use Rattle.pass_table.specs.Terms.{Effect, Moment, Acts, put, seeing, moving}
 use Rattle.pass_table.proofs.Lists.{all_one, put_here, put_else}
 use Rattle.shared_deque.specs.declared.layout.Word.{Word}
-use Rattle.shared_deque.specs.declared.layout.Word.TheVariants.{Ends, Turn, Value}
+use Rattle.shared_deque.specs.declared.layout.Word.TheVariants.{Ends}
 use Rattle.shared_deque.specs.declared.sides.Aim.{Aim}
 use Rattle.shared_deque.specs.declared.sides.Aim.TheVariants.{Push, Pop}
 use Rattle.shared_deque.specs.declared.clients.Plan.{Plan}
 use Rattle.shared_deque.specs.declared.clients.Stage.{Stage}
 use Rattle.shared_deque.specs.declared.clients.Stage.TheVariants.{Idle, Looked, Claimed, Read, Storing, Leaving}
-use Rattle.shared_deque.specs.declared.clients.Kind.{Kind}
 use Rattle.shared_deque.specs.declared.clients.Kind.TheVariants.{EndsLook, Claim, CellLook, EndsExchange, CellStore, Leave}
 use Rattle.shared_deque.specs.Layout.{owner_in, value_in, owner_place, value_place, size_in, ends_word}
 use Rattle.shared_deque.specs.Aims.{call_of, cell_of, ends_after, is_turned_away, MayGo, refusal, success, Asks, HandsOut}
 use Rattle.shared_deque.specs.Counted.{DequeEntry, left_of, head_from, ends_of, deque_with, Shows}
 use Rattle.shared_deque.specs.Rule.{HasNoCell, HasCell, CellFits, IsLaid, IsLog, IsLoaded, IsAt, DequeRule, deque_terms, is_idle}
-use Rattle.shared_deque.specs.Kinds.{Looks, ends_read, turn_read, value_read, entry, NamesAnother, ready, won, TellsChosen, MayDo}
+use Rattle.shared_deque.specs.Kinds.{ends_read, turn_read, value_read, entry, NamesAnother, ready, won, MayDo}
 use Rattle.shared_deque.proofs.Places.{owner_in-set_ends, value_in-set_ends, ends-set, ends-set_owner, owner_in-set_owner, owner_in-set_other, value_in-set_owner, ends-set_value, value_in-set_value, value_in-set_other, owner_in-set_value}
 use Rattle.shared_deque.proofs.Logs.{has_after, HasFound, Won, log_won, log_turned_away, counted, cell_of_within, may_go}
 use Rattle.shared_deque.proofs.Cells.{Touches, stages_kept, cells_kept}

@@ -1,7 +1,6 @@
 -- What a call's clauses say of its pass, from what it did to its caller's view.
-use Rattle.std.proofs.Common.{◌≡◌, ◌≢◌, ℕ, ◌<◌, List, [], ◌∷◌, ◌++◌, refl, ap, sym, ◌∙◌, subst, Option, Some, None, Result, Ok, Err, IsTrue}
+use Rattle.std.proofs.Common.{ℕ, List, Option, Some, None, Result, Ok, Err}
 use Rattle.std.specs.Prelude.{IfOk, IfSome}
-use Rattle.pass_book.specs.Histories.{IsOfCallers}
 use Rattle.seq_objects.specs.declared.deques.DequeCall.{DequeCall}
 use Rattle.seq_objects.specs.declared.deques.DequeReply.{DequeReply}
 use Rattle.seq_objects.specs.declared.deques.DequeReply.TheVariants.{Pushed, Took, Empty, Full}
@@ -13,15 +12,14 @@ use Rattle.pass_table.proofs.Going.{enters_of, nothing_of, alone}
 use Rattle.shared_deque.specs.declared.layout.Word.{Word}
 use Rattle.shared_deque.specs.declared.clients.Plan.{Plan}
 use Rattle.shared_deque.specs.declared.clients.Stage.{Stage}
-use Rattle.shared_deque.specs.declared.clients.Stage.TheVariants.{Idle, Looked, Claimed, Read, Storing, Leaving}
 use Rattle.shared_deque.specs.declared.faults.PushFault.{PushFault}
 use Rattle.shared_deque.specs.declared.faults.PushFault.TheVariants.{Full as NoRoom, Busy}
 use Rattle.shared_deque.specs.declared.faults.BusyAt.{BusyAt}
 use Rattle.shared_deque.specs.declared.faults.Full.{Full as FullDeque}
-use Rattle.shared_deque.specs.Rule.{deque_terms, is_idle}
+use Rattle.shared_deque.specs.Rule.{deque_terms}
 use Rattle.shared_deque.specs.Counted.{DequeEntry}
 use Rattle.shared_deque.specs.Kinds.{Looks}
-use Rattle.shared_deque.specs.Answers.{DequeChange, PushEnters, PopEnters, PushIsCaused, PopIsCaused, PushWaitIsCaused, PopWaitIsCaused, PushesAlone, PopsAlone, SeesOwnAlone, last_push, last_pop}
+use Rattle.shared_deque.specs.Answers.{DequeChange, PushEnters, PopEnters, PushIsCaused, PopIsCaused, PushWaitIsCaused, PopWaitIsCaused, PushesAlone, PopsAlone, SeesOwnAlone}
 use Rattle.shared_deque.specs.Tries.{TriesPush, TriesPop, WaitsPush, WaitsPop, push_entries, pop_entries, TakenIsKept, PoppedIsKept}
 
 module _ {K : Type 0} (keeps : K → ℕ → Type 0) (plan : Plan K) (call : DequeCall) (v w : View DequeCall DequeReply (Plan K) Stage Word) where

@@ -1,5 +1,5 @@
 -- Items in a ring of cells, as they are pushed and popped at both ends.
-use Rattle.std.proofs.Common.{◌≡◌, ◌≢◌, ℕ, zero, suc, ◌+◌, ◌-◌, ◌*◌, ◌/◌, ◌%◌, ◌<◌, cond, List, [], ◌∷◌, ◌++◌, length, take, drop, get_or, ap, sym, ◌∙◌, arith, length-append, length-drop, div-add-mod', eq-eqb, ne_eqb, nat_eq, Some, slice_get, ⊎_elim, add-zero}
+use Rattle.std.proofs.Common.{◌≡◌, ◌≢◌, ℕ, zero, suc, ◌+◌, ◌-◌, ◌*◌, ◌/◌, ◌%◌, ◌<◌, List, [], ◌∷◌, ◌++◌, length, take, drop, get_or, ap, sym, ◌∙◌, arith, length-append, length-drop, div-add-mod', Some, slice_get, ⊎_elim, add-zero}
 use Rattle.std.proofs.Math.Nat.{mul-add-mod_self_right, add-mod_right, mod-eq_of_lt, mod-lt}
 use Rattle.std.proofs.Math.ListN.{get_or-append}
 use Rattle.std.proofs.Math.Seq.{get_or-append_seam}

@@ -1,5 +1,5 @@
 -- Busy tries, one after another, and the try that ends them.
-use Rattle.std.proofs.Common.{◌≡◌, ℕ, List, [], ◌++◌, subst, Option, Result, Ok, Err}
+use Rattle.std.proofs.Common.{◌≡◌, ℕ, subst, Option, Result, Ok, Err}
 use Rattle.seq_objects.specs.declared.deques.DequeCall.{DequeCall}
 use Rattle.seq_objects.specs.declared.deques.DequeReply.{DequeReply}
 use Rattle.seq_objects.specs.Meanings.{DequeOpens, DequeSteps}
@@ -13,8 +13,8 @@ use Rattle.shared_deque.specs.declared.faults.PushFault.TheVariants.{Busy}
 use Rattle.shared_deque.specs.declared.faults.BusyAt.{BusyAt}
 use Rattle.shared_deque.specs.declared.faults.Full.{Full as FullDeque}
 use Rattle.shared_deque.specs.Rule.{deque_terms}
-use Rattle.shared_deque.specs.Answers.{PushCause, PopCause, IsBusyPush, IsBusyPop, last_push, last_pop}
-use Rattle.shared_deque.specs.Tries.{TriesPush, TriesPop, WaitsPush, WaitsPop, push_entries, pop_entries, TakenIsKept}
+use Rattle.shared_deque.specs.Answers.{PushCause, PopCause, IsBusyPush, IsBusyPop, last_push}
+use Rattle.shared_deque.specs.Tries.{TriesPush, TriesPop, WaitsPush, WaitsPop, push_entries, pop_entries}
 
 module _ {K : Type 0} (keeps : K → ℕ → Type 0) (plan : Plan K) (call : DequeCall) (v m w : View DequeCall DequeReply (Plan K) Stage Word) where
   pub push_waits : (result : Result Unit FullDeque) → HasTried (deque_terms keeps) DequeOpens DequeSteps plan (IsBusyPush plan.capacity plan.callers v.number call) v m

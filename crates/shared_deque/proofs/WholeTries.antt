@@ -1,5 +1,5 @@
 -- What a whole try of a push or a pop comes to, by where it ends.
-use Rattle.std.proofs.Common.{◌≡◌, ◌≢◌, ℕ, ◌<◌, Bool, true, false, List, [], ◌∷◌, ◌++◌, refl, ap, sym, ◌∙◌, subst, eq-eqb, ne_eqb, inl, inr, Some, None, Ok, Err}
+use Rattle.std.proofs.Common.{◌≡◌, ◌≢◌, ℕ, Bool, true, false, List, [], ◌∷◌, ◌++◌, subst, eq-eqb, ne_eqb}
 use Rattle.std.specs.Prelude.{MatchBool}
 use Rattle.atomic_table.specs.Table.{Me}
 use Rattle.seq_objects.specs.declared.deques.DequeCall.{DequeCall}
@@ -9,19 +9,14 @@ use Rattle.pass_table.specs.declared.views.View.{View}
 use Rattle.pass_table.specs.Steps.{Goes, StaysTo}
 use Rattle.pass_table.proofs.Going.{goes_then, goes_still}
 use Rattle.shared_deque.specs.declared.layout.Word.{Word}
-use Rattle.shared_deque.specs.declared.sides.Side.{Side}
 use Rattle.shared_deque.specs.declared.sides.Aim.{Aim}
-use Rattle.shared_deque.specs.declared.sides.Aim.TheVariants.{Push, Pop}
 use Rattle.shared_deque.specs.declared.clients.Plan.{Plan}
 use Rattle.shared_deque.specs.declared.clients.Stage.{Stage}
-use Rattle.shared_deque.specs.declared.clients.Kind.TheVariants.{EndsLook, Claim, CellLook, EndsExchange, CellStore, Leave}
-use Rattle.shared_deque.specs.declared.faults.PushFault.TheVariants.{Full as NoRoom, Busy}
-use Rattle.shared_deque.specs.Layout.{size_in}
+use Rattle.shared_deque.specs.declared.clients.Kind.TheVariants.{EndsLook, Claim, CellLook, EndsExchange}
 use Rattle.shared_deque.specs.Aims.{call_of, cell_of, is_turned_away, MayGo, success, HandsOut}
 use Rattle.shared_deque.specs.Counted.{DequeEntry}
 use Rattle.shared_deque.specs.Rule.{deque_terms}
 use Rattle.shared_deque.specs.Kinds.{Looks, Does, ends_read, turn_read, value_read, entry, NamesAnother}
-use Rattle.shared_deque.specs.Tries.{TriesPush, TriesPop}
 
 true_way : (b : Bool) (P Q : Type 0) → b ≡ true → MatchBool b P Q → P
 true_way b P Q is way = subst (λ v. MatchBool v P Q) is way

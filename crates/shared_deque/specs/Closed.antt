@@ -1,5 +1,5 @@
 -- What the closing of a deque asks and gives.
-use Rattle.std.specs.Prelude.{◌≡◌, ℕ, ◌+◌, ◌%◌, ◌<◌, ◌≤◌, List, [], ◌∷◌, ◌++◌, length, slice_index, slice_get, Some, All}
+use Rattle.std.specs.Prelude.{◌≡◌, ℕ, ◌+◌, ◌%◌, ◌<◌, List, [], length, slice_index, All}
 use Rattle.pass_book.specs.Pages.{Book, IsBook, IsPageOf}
 use Rattle.seq_objects.specs.declared.deques.DequeCall.{DequeCall}
 use Rattle.seq_objects.specs.declared.deques.DequeReply.{DequeReply}

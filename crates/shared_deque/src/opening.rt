@@ -1,6 +1,8 @@
-//! How a deque is opened.
-ghost use Rattle.std.specs.Prelude.{◌≡◌, ◌↔◌, ◌*◌, ◌+◌, ◌^◌, ◌≤◌, IfOk, IsErrOf, replicate};
-ghost use Rattle.shared_deque.specs.Opened.{IsIn, IsOpenedWith};
+//! How a deque is opened, and its passes are taken one by one.
+ghost use Rattle.std.specs.Prelude.{◌≡◌, ◌↔◌, ◌*◌, ◌+◌, ◌^◌, ◌<◌, ◌≤◌, [], ◌∷◌, ◌++◌, IfOk, IsErrOf, length, replicate};
+ghost use Rattle.pass_table.specs.Passes.{pass_opening};
+ghost use Rattle.shared_deque.specs.Deques.{opening_of};
+ghost use Rattle.shared_deque.specs.Opened.{AreOfOpening, IsIn, IsOpenedWith};
 
 use crate::clients::Plan;
 use crate::deques::{Deque, DequePass};
@@ -90,5 +92,21 @@ impl<K: Keeps> Deque<K> {
             alloc,
         };
         Ok((deque, passes))
+    }
+
+    /// Takes the last pass out of the list, so that its caller can have it apart from the others, as in a thread of its
+    /// own. `close` wants all of them in one list again, in any order.
+    pub fn take_pass(&self, passes: &mut Vec<DequePass<K>>) -> DequePass<K>
+        requires opening { AreOfOpening self.now passes.old.items }
+        requires some { 0 < length passes.old.items }
+        ensures taken { passes.old.items ≡ passes.new.items ++ result ∷ [] }
+        ensures pass { pass_opening result ≡ opening_of self.now }
+        ensures rest { AreOfOpening self.now passes.new.items }
+        ensures count { length passes.new.items + 1 ≡ length passes.old.items }
+    {
+        let Some(pass) = passes.pop() else {
+            unreachable!()
+        };
+        pass
     }
 }

@@ -1,8 +1,8 @@
-ghost use Rattle.std.specs.Prelude.{◌≡◌, ◌<◌, ◌≤◌, ◌+◌, All, length, IfOk, IfSome};
+ghost use Rattle.std.specs.Prelude.{◌≡◌, ◌<◌, ◌≤◌, All, length, IfOk};
 ghost use mathlib.Core.List.{IsPrefix};
 ghost use Rattle.pass_table.specs.Passes.{IsSamePass, page, pass_opening};
 ghost use Rattle.shared_deque.specs.Deques.{callers_of, opening_of};
-ghost use Rattle.shared_deque.specs.Opened.{IsNewPass, ArePassesOf, AreOfOpening};
+ghost use Rattle.shared_deque.specs.Opened.{AreOfOpening};
 
 use super::*;
 use crate::sides::Side;
@@ -112,16 +112,6 @@ fn work_all<R: Threads + Wait + Sync>(rt: &R, deque: &Deque<AnyItem>, workers: &
     );
 }
 
-// The last of the passes.
-fn take_pass<K: Keeps>(deque: &Deque<K>, passes: &mut Vec<DequePass<K>>) -> Option<DequePass<K>>
-    requires { ArePassesOf deque.now passes.old.items }
-    ensures rest { ArePassesOf deque.now passes.new.items }
-    ensures pass { IfSome result (λ p. IsNewPass deque.now (length passes.new.items) p) }
-    ensures count { IfSome result (λ p. length passes.old.items ≡ length passes.new.items + 1) }
-{
-    passes.pop()
-}
-
 fn close_alone(
     alloc: Global,
     deque: Deque<AnyItem>,
@@ -161,11 +151,12 @@ fn workers_of(
     each: u64,
     pushes_at: Side,
 ) -> Result<Vec<Worker>, Fail>
-    requires { ArePassesOf deque.now passes.items }
+    requires { AreOfOpening deque.now passes.items }
     ensures { IfOk result (λ v. All (λ w. pass_opening w.pass ≡ opening_of deque.now) v.items) }
 {
     let mut workers = Vec::new(alloc);
-    while let Some(pass) = take_pass(deque, &mut passes) {
+    'callers: while !passes.is_empty() {
+        let pass = deque.take_pass(&mut passes);
         let pushes_items = pass.caller() < pushers;
         let worker = Worker {
             pass,
@@ -334,9 +325,7 @@ fn alone(alloc: Global, capacity: u32) -> Result<(Deque<AnyItem>, DequePass<AnyI
     ensures alone { IfOk result (λ r. callers_of r.0 ≡ 1) }
 {
     let (deque, mut passes) = Deque::open(alloc, 16, capacity, 1, AnyItem)?;
-    let Some(pass) = take_pass(&deque, &mut passes) else {
-        return Err("no pass".into());
-    };
+    let pass = deque.take_pass(&mut passes);
     Ok((deque, pass))
 }
 
@@ -517,12 +506,8 @@ fn pair(alloc: Global) -> Result<(Deque<Even>, DequePass<Even>, DequePass<Even>)
     ensures callers { IfOk result (λ r. callers_of r.0 ≡ 2) }
 {
     let (deque, mut passes) = Deque::open(alloc, 2, 5, 2, Even)?;
-    let Some(second) = take_pass(&deque, &mut passes) else {
-        return Err("no pass".into());
-    };
-    let Some(first) = take_pass(&deque, &mut passes) else {
-        return Err("no pass".into());
-    };
+    let second = deque.take_pass(&mut passes);
+    let first = deque.take_pass(&mut passes);
     Ok((deque, first, second))
 }
 

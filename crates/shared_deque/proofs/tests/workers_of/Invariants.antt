@@ -2,11 +2,11 @@ use Rattle.std.proofs.Common.{◌≡◌, vec_len}
 use Rattle.std.specs.List.{All}
 use Rattle.pass_table.specs.Passes.{pass_opening}
 use Rattle.shared_deque.specs.Deques.{opening_of}
-use Rattle.shared_deque.specs.Opened.{ArePassesOf}
+use Rattle.shared_deque.specs.Opened.{AreOfOpening}
 use Rattle.shared_deque.proofs.tests.workers_of.Given as goal
 
-abbrev pub invariant-loop-pass : goal.invariant-loop-pass
-invariant-loop-pass l = record { left : ArePassesOf l.deque l.passes.items; made : All (λ w. pass_opening w.pass ≡ opening_of l.deque) l.workers.items }
+abbrev pub invariant-callers : goal.invariant-callers
+invariant-callers l = record { left : AreOfOpening l.deque l.passes.items; made : All (λ w. pass_opening w.pass ≡ opening_of l.deque) l.workers.items }
 
-abbrev pub decreases-loop-pass : goal.decreases-loop-pass
-decreases-loop-pass l = vec_len l.passes
+abbrev pub decreases-callers : goal.decreases-callers
+decreases-callers l = vec_len l.passes

@@ -1,4 +1,4 @@
-use Rattle.std.proofs.Common.{sym, ◌∙◌, ap, ◌+◌, arith}
+use Rattle.std.proofs.Common.{arith}
 use Rattle.shared_deque.proofs.KindSteps.{may_claim}
 use Rattle.shared_deque.proofs.deques.Deque.claim.Goals as goal
 

@@ -1,6 +1,4 @@
 use Rattle.std.proofs.Common.{subst, sym}
-use Rattle.std.specs.Prelude.{◌==◌}
-use prog.Atomic.{either}
 use Rattle.seq_objects.specs.Meanings.{DequeOpens, DequeSteps}
 use Rattle.pass_table.specs.Steps.{Steps}
 use Rattle.shared_deque.specs.Rule.{deque_terms}
