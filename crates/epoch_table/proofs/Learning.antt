@@ -1,59 +1,36 @@
 -- What a step learns of the number that it finds, from what holds of every state.
-use Rattle.std.proofs.Common.{◌≡◌, ◌<◌, ◌≤◌, ℕ, true, if◌then◌else◌, List, [], ◌∷◌, Option, Some, None, refl, ap, sym, ◌∙◌, subst, ⊎_elim, arith}
-use Rattle.std.proofs.lemmas.Bool.Decides.{eqb_tells}
+use Rattle.std.proofs.Common.{◌≡◌, ◌≢◌, ◌⊎◌, ◌<◌, ◌≤◌, ℕ, ap, sym, ◌∙◌, subst}
 use Rattle.std.proofs.lemmas.Nat.{mod-mul-add}
-use Rattle.pgas_base.specs.declared.shapes.Shape.{Shape}
+use Rattle.pgas_base.specs.Shapes.{IsShape}
 use Rattle.pool_core.specs.FreeWords.{free_index}
+use Rattle.pool_core.specs.Headers.{header_word}
 use Rattle.epoch_laws.specs.declared.steps.Kind.{Kind}
 use Rattle.epoch_laws.specs.declared.steps.Kind.TheVariants.{Register, Unregister, PinLook, PinSet, Unpin, TakeLook, TakeTry, Show, Hold, Touch, Return, DeferLook, DeferSwap, DeferLink, ElectLocal, ElectGlobal, EpochLook, ScanToken, Advance, Spread, Collect, Walk, Release, Leave, StackLook, StackNext, StackPop, StackPut, HandLink, HomeSwap, HomeLink, HomeTake, HomeWalk}
-use Rattle.epoch_laws.specs.Places.{Place, is_among}
-use Rattle.epoch_laws.specs.Seats.{Seat}
-use Rattle.epoch_laws.specs.States.{State, IsPlace}
-use Rattle.epoch_laws.specs.Locations.{InStack, at_}
-use Rattle.epoch_laws.specs.Paths.{IsPath, top_at, first_of}
+use Rattle.epoch_laws.specs.ChainWords.{IsChainWord}
+use Rattle.epoch_laws.specs.Places.{pending}
+use Rattle.epoch_laws.specs.Seats.{Seat, Advanced}
+use Rattle.epoch_laws.specs.States.{State}
 use Rattle.epoch_laws.specs.Sound.{Map, IsSound}
 use Rattle.epoch_laws.specs.Needs.{AllMet}
+use Rattle.epoch_laws.specs.ReclaimSteps.{walk}
 use Rattle.epoch_laws.specs.StackSteps.{stack_look}
+use Rattle.epoch_laws.specs.HomeSteps.{home_walk}
 use Rattle.epoch_laws.specs.Steps.{move}
-use Rattle.epoch_laws.proofs.Updates.{same_place_tells}
+use Rattle.epoch_laws.proofs.ChainWords.{stack_top, list_word, home_word, walked_word, taken_word}
 use Rattle.epoch_table.specs.Deeds.{deed}
 use Rattle.epoch_table.specs.Knowledge.{Finds}
 use Rattle.epoch_table.specs.Rule.{AreSmall, AreLow}
-use Rattle.epoch_table.specs.Kinds.{Learns}
+use Rattle.epoch_table.specs.Kinds.{Succeeds, Learns}
 
-among_first : (p : Place) (xs : List Place) → is_among p (p ∷ xs) ≡ true
-unfolding is_among
-among_first p xs = ⊎_elim (λ h. rw h.0 refl) (λ h. let ne = h.1 in absurd (ne refl)) (same_place_tells p p)
+-- what of a row tells of the word: the locale of a look at a stack is one of the shape's, and the chain that is walked over isn't at its end
+abbrev pub Within : ℕ → Seat → Kind → Type 0
+Within locales seat (StackLook l) = l < locales
+Within locales seat Walk = (seat.phase ≡ Advanced) × (seat.reclaim.chain ≢ 0)
+Within locales seat HomeWalk = seat.homing.chain ≢ 0
+Within locales seat _ = Unit {0}
 
--- the first object of a path is among those that it leads over
-path_begins : (link : Place → Option Place) (p : Place) (xs : List Place) → IsPath link (Some p) xs → is_among p xs ≡ true
-path_begins link p [] way = absurd (cc way)
-path_begins link p (q ∷ xs) way = subst (λ x. is_among p (x ∷ xs) ≡ true) (cc (way.0)) (among_first p xs)
-
-top_within : (shape : Shape) (l index : ℕ) (link : Place → Option Place) (xs : List Place) → IsPath link (top_at l index) xs → ((p : Place) → is_among p xs ≡ true → IsPlace shape p) → index ≤ shape.objects
-unfolding top_at
-top_within shape l index link xs way all =
-    ⊎_elim
-    (λ h. let zero' = h.1 in omega (arith, zero'))
-    (λ h.
-    let p : Place = record { locale = l; index = index } in
-    let way' : IsPath link (Some p) xs = subst (λ b. IsPath link (if b then None else Some p) xs) h.0 way in
-    (all p (path_begins link p xs way')).index)
-    (eqb_tells index 0)
-
--- the object on top of a stack is one of its locale's, or there is none
-stack_top : (s : State) (m : Map) → IsSound s m → (l : ℕ) → l < s.shape.locales → (s.words.free_head l).index ≤ s.shape.objects
-unfolding first_of
-stack_top s m sound l low =
-    top_within s.shape l (s.words.free_head l).index m.link (m.content (at_ InStack l)) (sound.paths (at_ InStack l) (refl, low)) (λ p among. ((sound.listed (at_ InStack l)).all p among).1)
-
--- the locale of a look at a stack is one of the shape's
-abbrev pub Within : ℕ → Kind → Type 0
-Within locales (StackLook l) = l < locales
-Within locales _ = Unit {0}
-
-pub within_row : (s : State) (c : ℕ) (k : Kind) → AllMet (move s c k).needs → Within s.shape.locales k
-unfolding move stack_look
+pub within_row : (s : State) (c : ℕ) (k : Kind) → AllMet (move s c k).needs → Within s.shape.locales (s.seat c) k
+unfolding move stack_look walk home_walk
 within_row s c (Register l n) h = tt
 within_row s c Unregister h = tt
 within_row s c PinLook h = tt
@@ -75,7 +52,7 @@ within_row s c ScanToken h = tt
 within_row s c Advance h = tt
 within_row s c Spread h = tt
 within_row s c Collect h = tt
-within_row s c Walk h = tt
+within_row s c Walk h = h.1.0
 within_row s c (Release q) h = tt
 within_row s c Leave h = tt
 within_row s c (StackLook l) h = h.1.0
@@ -86,43 +63,43 @@ within_row s c (HandLink q word) h = tt
 within_row s c (HomeSwap top tail) h = tt
 within_row s c HomeLink h = tt
 within_row s c (HomeTake l) h = tt
-within_row s c HomeWalk h = tt
+within_row s c HomeWalk h = h.1.0.1
 
-module _ (s : State) (m : Map) (sound : IsSound s m) (small : AreSmall s) (low : AreLow s) (seat : Seat) (found : ℕ) where
-  pub learns : (k : Kind) → Within s.shape.locales k → Finds s.words (deed seat k) found → Learns s.shape k found
-  learns (Register l n) within finds = tt
-  learns Unregister within finds = tt
-  learns PinLook within finds = subst (λ n. n ≤ 4611686018427387904) finds (low.epochs seat.token.locale)
-  learns PinSet within finds = tt
-  learns Unpin within finds = tt
-  learns (TakeLook l i) within finds = tt
-  learns (TakeTry l i) within finds = tt
-  learns (Show q) within finds = tt
-  learns (Hold q) within finds = tt
-  learns (Touch q) within finds = tt
-  learns (Return q) within finds = tt
-  learns (DeferLook q) within finds = tt
-  learns DeferSwap within finds = tt
-  learns DeferLink within finds = tt
-  learns ElectLocal within finds = tt
-  learns ElectGlobal within finds = tt
-  learns EpochLook within finds = subst (λ n. n ≤ 4611686018427387904) finds low.epoch
-  learns ScanToken within finds = tt
-  learns Advance within finds = tt
-  learns Spread within finds = tt
-  learns Collect within finds = tt
-  learns Walk within finds = tt
-  learns (Release q) within finds = tt
-  learns Leave within finds = tt
-  learns (StackLook l) within finds =
+module _ (s : State) (m : Map) (sound : IsSound s m) (is_shape : IsShape s.shape) (small : AreSmall s) (low : AreLow s) (c : ℕ) (found : ℕ) where
+  pub learns : (k : Kind) → Within s.shape.locales (s.seat c) k → Succeeds k s c → Finds s.words (deed (s.seat c) k) found → Learns s.shape (s.seat c) k found
+  learns (Register l n) within succeeds finds = tt
+  learns Unregister within succeeds finds = tt
+  learns PinLook within succeeds finds = subst (λ n. n ≤ 4611686018427387904) finds (low.epochs (s.seat c).token.locale)
+  learns PinSet within succeeds finds = tt
+  learns Unpin within succeeds finds = tt
+  learns (TakeLook l i) within succeeds finds = tt
+  learns (TakeTry l i) within succeeds finds = sym finds ∙ ap (λ h. header_word h.count h.state) succeeds
+  learns (Show q) within succeeds finds = tt
+  learns (Hold q) within succeeds finds = tt
+  learns (Touch q) within succeeds finds = tt
+  learns (Return q) within succeeds finds = tt
+  learns (DeferLook q) within succeeds finds = subst (λ n. n ≤ 4611686018427387904) finds (low.epochs (s.seat c).token.locale)
+  learns DeferSwap within succeeds finds = tt
+  learns DeferLink within succeeds finds = tt
+  learns ElectLocal within succeeds finds = tt
+  learns ElectGlobal within succeeds finds = tt
+  learns EpochLook within succeeds finds = subst (λ n. n ≤ 4611686018427387904) finds low.epoch
+  learns ScanToken within succeeds finds = tt
+  learns Advance within succeeds finds = tt
+  learns Spread within succeeds finds = tt
+  learns Collect within succeeds finds = subst (IsChainWord s.shape) finds (list_word s m sound _ _)
+  learns Walk within succeeds finds = subst (IsChainWord s.shape) finds (walked_word s m sound c within.0 within.1)
+  learns (Release q) within succeeds finds = tt
+  learns Leave within succeeds finds = tt
+  learns (StackLook l) within succeeds finds =
       let head = s.words.free_head l in
       let index : free_index found ≡ head.index = ap free_index (sym finds) ∙ mod-mul-add head.count 16777216 head.index (small.heads l) in
       subst (λ n. n ≤ s.shape.objects) (sym index) (stack_top s m sound l within)
-  learns StackNext within finds = tt
-  learns StackPop within finds = tt
-  learns (StackPut top tail) within finds = tt
-  learns (HandLink q word) within finds = tt
-  learns (HomeSwap top tail) within finds = tt
-  learns HomeLink within finds = tt
-  learns (HomeTake l) within finds = tt
-  learns HomeWalk within finds = tt
+  learns StackNext within succeeds finds = tt
+  learns StackPop within succeeds finds = tt
+  learns (StackPut top tail) within succeeds finds = tt
+  learns (HandLink q word) within succeeds finds = tt
+  learns (HomeSwap top tail) within succeeds finds = tt
+  learns HomeLink within succeeds finds = tt
+  learns (HomeTake l) within succeeds finds = subst (IsChainWord s.shape) finds (home_word s m sound l)
+  learns HomeWalk within succeeds finds = subst (λ w. (w ≡ pending) ⊎ IsChainWord s.shape w) finds (taken_word s m sound is_shape c within)

@@ -1,7 +1,5 @@
 -- The opening of a manager's table meets its rule.
-use Rattle.std.proofs.Common.{◌≡◌, ◌⊎◌, ◌<◌, ◌≤◌, ◌+◌, ◌*◌, ◌^◌, ℕ, true, false, List, [], length, get_or, slice_get, slice_index, Some, None, refl, ap, sym, ◌∙◌, subst, inl, inr, ⊎_elim, arith}
-use mathlib.Core.Path.{fun_ext}
-use Rattle.std.specs.Prelude.{Option as Opt}
+use Rattle.std.proofs.Common.{◌≡◌, ◌<◌, ◌≤◌, ℕ, true, List, [], length, slice_index, None, refl, ap, sym, ◌∙◌, subst, ⊎_elim, arith}
 use Rattle.std.proofs.lemmas.Bool.{cases_lt, false≢true}
 use Rattle.std.proofs.lemmas.List.{get_or_past}
 use Rattle.std.proofs.lemmas.Option.{slice_get-get_or, slice_get_within}
@@ -13,15 +11,19 @@ use Rattle.pgas_base.specs.Starts.{IsStart}
 use Rattle.epoch_laws.specs.Places.{Place}
 use Rattle.epoch_laws.specs.Words.{WordName, word_at}
 use Rattle.epoch_laws.specs.Seats.{is_reclaiming, Idle}
-use Rattle.epoch_laws.specs.States.{State, opening, opening_seat, opening_words}
+use Rattle.epoch_laws.specs.States.{opening, opening_seat, opening_words}
 use Rattle.epoch_laws.specs.ReclaimSteps.{last_epoch}
 use Rattle.pass_table.specs.Openings.{AreInOrder}
+use Rattle.epoch_table.specs.Events.{HasNoReturn}
 use Rattle.epoch_table.specs.declared.parts.Plan.{Plan}
-use Rattle.epoch_table.specs.declared.parts.Part.{Part}
-use Rattle.epoch_table.specs.Layout.{Named, InRow, OfClient, place, named_place, client_place, table_words, IsNamed, site_at, opening_number}
-use Rattle.epoch_table.specs.Clients.{ClientTerms, Scene, Opens, opening_scene, thing_of, deferrals_in}
+use Rattle.epoch_table.specs.Layout.{Named, OfClient, place, named_place, table_words, site_at, opening_number}
+use Rattle.epoch_table.specs.Clients.{ClientTerms, Opens, opening_scene, thing_of, deferrals_in}
 use Rattle.epoch_table.specs.Rule.{AreShown, AreSmall, AreLow, row_word, scene_of, ManagerRule, manager_terms}
 use Rattle.epoch_table.proofs.Places.{site_found, named_within}
+
+nothing_returned : HasNoReturn []
+unfolding HasNoReturn
+nothing_returned = tt
 
 module _ {A : Type 0} (P : ℕ → A → Type 0) where
   pub in_order_none : (xs : List A) → xs ≡ [] → AreInOrder P xs
@@ -38,6 +40,10 @@ module _ (shape : Shape) (start : Start) (seats : ℕ) where
   opening_seats_are : (c : ℕ) → opening_seat ≡ (opening shape start seats).seat c
   unfolding opening
   opening_seats_are c = refl
+
+  opening_heads : (l : ℕ) → ((opening shape start seats).words.free_head l).count ≡ start.stack
+  unfolding opening opening_words
+  opening_heads l = refl
 
   opening_small : AreSmall (opening shape start seats)
   unfolding opening opening_words
@@ -110,8 +116,11 @@ module _ {Self View Call Reply State' : Type 0} (K : ClientTerms Self View Call 
     wide = wide;
     shown = shown;
     seats = λ c. opening_seats_are plan.shape plan.start plan.callers c;
+    facts = λ c. record { count = λ p n has e. absurd (cc e); next = λ p word hand e. absurd (cc e) };
+    heads = λ l. let head = opening_heads plan.shape plan.start plan.callers l in omega (arith, head);
     small = opening_small plan.shape plan.start plan.callers;
     low = opening_low plan.shape plan.start plan.callers is_start;
+    returns = λ none. nothing_returned;
     reclaims = λ c r. absurd (opening_rests r);
     client = subst (K.holds plan.client plan.shape) (sym scene_is) (opens plan.client plan.shape);
   }

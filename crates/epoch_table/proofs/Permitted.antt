@@ -1,5 +1,5 @@
 -- A quiet step whose row is met is permitted on its word.
-use Rattle.std.proofs.Common.{◌≡◌, ◌==◌, ◌<◌, ℕ, List, slice_index, refl, sym, subst, arith}
+use Rattle.std.proofs.Common.{◌≡◌, ◌==◌, ◌<◌, ℕ, ◌++◌, if◌then◌else◌, ap, ◌∙◌, List, slice_index, refl, sym, subst, arith}
 use prog.Atomic.{either}
 use Rattle.atomic_table.specs.Table.{Me, Act, keeps as holding}
 use Rattle.pgas_base.specs.declared.shapes.Shape.{Shape}
@@ -11,19 +11,24 @@ use Rattle.epoch_table.specs.declared.events.Happens.{Happens}
 use Rattle.epoch_table.specs.declared.parts.Plan.{Plan}
 use Rattle.epoch_table.specs.declared.parts.Part.{Part}
 use Rattle.epoch_table.specs.Layout.{named_place, table_words, IsNamed}
-use Rattle.epoch_table.specs.Deeds.{Deed, Elsewhere, Loads, Stores, Swaps, Exchanges, deed}
+use Rattle.epoch_table.specs.Deeds.{Deed, Elsewhere, Loads, Stores, Swaps, Exchanges, deed, number_after}
 use Rattle.epoch_table.specs.Events.{PastOpens, PastSteps}
+use Rattle.epoch_table.specs.Heads.{Causes}
 use Rattle.epoch_table.specs.Knowledge.{Finds}
-use Rattle.epoch_table.specs.Clients.{ClientTerms, KeptByUnpins}
+use Rattle.epoch_table.specs.Clients.{ClientTerms, AreLawful, KeptByTakes, KeptByShows, KeptByReturns, KeptByDeferrals, KeptByFrees, KeptByUnpins}
 use Rattle.epoch_table.specs.Rule.{AreShown, manager_terms}
-use Rattle.epoch_table.specs.Kinds.{number_after, looks_of, IsOn, entries_made, part_after, TellsKind, MayMake, LoadsAt, StoresAt, SwapsAt, ExchangesAt, Permitted, Makes}
+use Rattle.epoch_table.specs.Kinds.{looks_of, IsOn, entries_made, part_after, TellsKind, MayMake, LoadsAt, StoresAt, SwapsAt, ExchangesAt, Permitted, Makes}
 use Rattle.pass_table.specs.Steps.{Steps}
 use Rattle.pass_table.proofs.Going.{goes_to}
 use Rattle.epoch_table.proofs.Places.{named_within}
 use Rattle.epoch_table.proofs.Writing.{found_so}
-use Rattle.epoch_table.proofs.MachineSteps.{now, learns_so, acts_so}
+use Rattle.epoch_table.proofs.MachineSteps.{now, learns_so, causes_so, acts_so}
 
-module _ {Self View' Call Reply State' : Type 0} (K : ClientTerms Self View' Call Reply State') (opens : State' → Type 0) (step : State' → Call → Reply → State' → Type 0) (kept : KeptByUnpins K)
+-- what a client owes, from its laws one by one
+pub lawful_of : {Self View Call Reply State : Type 0} {K : ClientTerms Self View Call Reply State} → KeptByTakes K → KeptByShows K → KeptByReturns K → KeptByDeferrals K → KeptByFrees K → KeptByUnpins K → AreLawful K
+lawful_of takes shows returns deferrals frees unpins = record { takes = takes; shows = shows; returns = returns; deferrals = deferrals; frees = frees; unpins = unpins }
+
+module _ {Self View' Call Reply State' : Type 0} (K : ClientTerms Self View' Call Reply State') (opens : State' → Type 0) (step : State' → Call → Reply → State' → Type 0) (laws : AreLawful K)
     (plan : Plan Self) (slots : ℕ) (kind : Kind) (me : Me (Unit {0}) (View (Happens Call Reply) (Unit {0}) (Plan Self) (Part View') WordName)) (may : MayMake K plan me.0.number kind me.0.part) where
   -- on this word, where what is told is what is found there
   permitted : (name : WordName) → IsNamed plan.shape name → IsOn (deed me.0.part.seat kind) name → (said : ℕ → ℕ)
@@ -39,7 +44,12 @@ module _ {Self View' Call Reply State' : Type 0} (K : ClientTerms Self View' Cal
       let finds' : Finds (now K opens step plan m rule).words (deed (m.parts c).seat kind) (said found) =
       subst (λ (p : Part View'). Finds (now K opens step plan m rule).words (deed p.seat kind) (said found)) (sym has) (finds m.words (now K opens step plan m rule).words rule.shown) in
       let on' : IsOn (deed (m.parts c).seat kind) name = subst (λ (p : Part View'). IsOn (deed p.seat kind) name) (sym has) on in
-      let all : G (m.parts c) = (_, holding, acts_so K opens step plan m rule c kind may' (said found) finds' name is_named on' kept legal me.1, (learns_so K opens step plan m rule c kind may' (said found) finds', (m.history, refl))) in
+      let all : G (m.parts c) = (
+        _,
+        holding,
+        acts_so K opens step plan m rule laws c kind may' (said found) finds' below name is_named on' legal me.1,
+        (learns_so K opens step plan m rule laws c kind may' (said found) finds', (m.history, refl), causes_so K opens step plan m rule laws c kind may' (said found) finds' below),
+      ) in
       subst G has all
 
   pub may_load : (word : ℕ) → LoadsAt plan.shape (deed me.0.part.seat kind) word → Permitted K opens step plan slots kind me word (λ n. n) (λ n. n)
@@ -135,6 +145,13 @@ module _ (shape : Shape) (own word : ℕ) where
   exchanges_within (Exchanges name from to) old new at = named_low name at.0 at.1
 
 module _ {Self View' Call Reply State' : Type 0} (K : ClientTerms Self View' Call Reply State') (opens : State' → Type 0) (step : State' → Call → Reply → State' → Type 0) (plan : Plan Self) where
+  -- what is seen after a step that sees
+  seen_is : (kind : Kind) (m : Me (Unit {0}) (View (Happens Call Reply) (Unit {0}) (Plan Self) (Part View') WordName)) (found : ℕ) (n : Me (Unit {0}) (View (Happens Call Reply) (Unit {0}) (Plan Self) (Part View') WordName))
+      → (steps : Steps (manager_terms K) (PastOpens opens) (PastSteps step) plan (λ found e. TellsKind K plan m.0.number kind m.0.part m.1 found e) m found n) → n.0.seen ≡ steps.effect.history ++ steps.effect.entries
+  seen_is kind m found n steps =
+      let e = steps.effect in
+      ap (λ x. x.0.seen) steps.after ∙ ap (λ b. if b then e.history ++ e.entries else m.0.seen) (ap (λ x. x.sees) steps.told.1.1)
+
   -- what a step of a known kind does to its caller's seat
   pub makes_of : (kind : Kind) (m : Me (Unit {0}) (View (Happens Call Reply) (Unit {0}) (Plan Self) (Part View') WordName)) (found : ℕ) (n : Me (Unit {0}) (View (Happens Call Reply) (Unit {0}) (Plan Self) (Part View') WordName))
       → Steps (manager_terms K) (PastOpens opens) (PastSteps step) plan (λ found e. TellsKind K plan m.0.number kind m.0.part m.1 found e) m found n → Makes K opens step plan kind m found n
@@ -142,4 +159,5 @@ module _ {Self View' Call Reply State' : Type 0} (K : ClientTerms Self View' Cal
     steps.told.0,
     goes_to (manager_terms K) (PastOpens opens) (PastSteps step) plan (λ found e. TellsKind K plan m.0.number kind m.0.part m.1 found e) m found n steps
         (looks_of (deed m.0.part.seat kind) found) (entries_made K plan m.0.number kind m.0.part found) (part_after K plan m.0.number kind m.0.part found) m.1 steps.told.1,
+    subst (Causes plan.start.stack plan.callers kind m.0.part.won found) (sym (seen_is kind m found n steps)) steps.told.2,
   )

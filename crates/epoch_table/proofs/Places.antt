@@ -1,5 +1,5 @@
 -- No two words of a manager stand at one place.
-use Rattle.std.proofs.Common.{◌≡◌, ◌<◌, ◌+◌, ◌-◌, ◌*◌, ◌/◌, ◌%◌, ℕ, if◌then◌else◌, ltb, refl, ap, ap₂, sym, ◌∙◌, arith}
+use Rattle.std.proofs.Common.{◌≡◌, ◌<◌, ◌+◌, ◌-◌, ◌*◌, ◌/◌, ◌%◌, ℕ, refl, ap, ap₂, sym, ◌∙◌, arith}
 use Rattle.std.proofs.lemmas.Bool.{lt-ltb, le-ltb}
 use Rattle.std.proofs.lemmas.Nat.{div-mul-add, mod-mul-add, mul-add-lt}
 use Rattle.pgas_base.specs.declared.shapes.Shape.{Shape}
@@ -49,12 +49,16 @@ module _ (shape : Shape) where
       rw (le-ltb n 16 (omega arith), le-ltb n (tokens_place shape) (omega arith), le-ltb n (objects_place shape) (omega arith), lt-ltb n (client_place shape) less)
       (ap₂ object_site (ap (λ x. object_at shape (x / w)) off ∙ ap (object_at shape) (div-mul-add i w r small) ∙ same) (ap (λ x. x % w) off ∙ mod-mul-add i w r small))
 
-  object_within : (p : Place) (r : ℕ) → IsPlace shape p → r < shape.width + 2 → object_place shape p + r < client_place shape
+  pub object_within : (p : Place) (r : ℕ) → IsPlace shape p → r < shape.width + 2 → object_place shape p + r < client_place shape
   object_within p r is small =
       let i = p.locale * shape.objects + (p.index - 1) in
       let index : p.index - 1 < shape.objects = (let a = is.some_object in let b = is.index in omega (arith, a, b)) in
       let low : i < shape.locales * shape.objects = omega (arith, mul-add-lt p.locale shape.objects (p.index - 1) shape.locales is.locale index) in
       omega (arith, mul-add-lt i (shape.width + 2) r (shape.locales * shape.objects) low small)
+
+  -- a word of a row stands below the client's
+  pub row_within : (p : Place) (at : ℕ) → IsPlace shape p → at < shape.width → place shape (InRow p at) < client_place shape
+  row_within p at is low = omega (arith, object_within p (2 + at) is (omega (arith, low)))
 
   client_found : (word : ℕ) → site_at shape (client_place shape + word * 8) ≡ OfClient word
   unfolding site_at

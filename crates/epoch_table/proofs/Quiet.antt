@@ -13,7 +13,7 @@ use Rattle.epoch_laws.specs.TakeSteps.{take_look, take_try, show, give_back}
 use Rattle.epoch_laws.specs.HoldSteps.{hold, touch}
 use Rattle.epoch_laws.specs.DeferralSteps.{defer_look, defer_swap, defer_link}
 use Rattle.epoch_laws.specs.ReclaimSteps.{elect_local, elect_global, epoch_look, scan_token, advance, spread, collect, walk, release, leave, has_global, passes, MayLeave}
-use Rattle.epoch_laws.specs.StackSteps.{stack_look, stack_next, stack_pop, stack_put, hand_link}
+use Rattle.epoch_laws.specs.StackSteps.{stack_look, stack_next, stack_pop, stack_put, hand_link, same_head}
 use Rattle.epoch_laws.specs.HomeSteps.{home_swap, home_link, home_take, home_walk}
 use Rattle.epoch_laws.specs.Steps.{move}
 use Rattle.epoch_laws.proofs.Updates.{number_here, at_number}
@@ -21,8 +21,7 @@ use Rattle.epoch_table.specs.Clients.{deferrals_in}
 use Rattle.epoch_laws.specs.declared.steps.Step.{Step}
 use Rattle.epoch_laws.specs.Runs.{state_after, outcome}
 use Rattle.epoch_table.specs.Clients.{ClientTerms}
-use Rattle.epoch_table.specs.Knowledge.{IsOwnRow}
-use Rattle.epoch_table.specs.Kinds.{IsQuiet, client_after}
+use Rattle.epoch_table.specs.Kinds.{IsQuiet, IsMade, Changes, client_after}
 use Rattle.epoch_table.proofs.Knowledge.{seats_kept}
 
 pub record Untouched (s : State) (x : Outcome) : Type 0 where
@@ -62,10 +61,10 @@ untouched s c (Release q) quiet = absurd quiet
 untouched s c Leave quiet = ⊎_elim (λ e. rw e (record { header = refl; tag = refl; owned = same_owned s.seat c _ refl; none = refl })) (λ e. rw e (record { header = refl; tag = refl; owned = same_owned s.seat c _ refl; none = refl })) (cases_Bool (has_global (s.seat c).phase))
 untouched s c (StackLook l) quiet = record { header = refl; tag = refl; owned = same_owned s.seat c _ refl; none = refl }
 untouched s c StackNext quiet = record { header = refl; tag = refl; owned = same_owned s.seat c _ refl; none = refl }
-untouched s c StackPop quiet = absurd quiet
-untouched s c (StackPut top tail) quiet = absurd quiet
-untouched s c (HandLink q word) quiet = absurd quiet
-untouched s c (HomeSwap top tail) quiet = absurd quiet
+untouched s c StackPop quiet = ⊎_elim (λ e. rw e (record { header = refl; tag = refl; owned = same_owned s.seat c _ refl; none = refl })) (λ e. rw e (record { header = refl; tag = refl; owned = same_owned s.seat c _ refl; none = refl })) (cases_Bool (same_head (s.words.free_head (s.seat c).stack.locale) (s.seat c).stack.head))
+untouched s c (StackPut top tail) quiet = ⊎_elim (λ e. rw e (record { header = refl; tag = refl; owned = same_owned s.seat c _ refl; none = refl })) (λ e. rw e (record { header = refl; tag = refl; owned = same_owned s.seat c _ refl; none = refl })) (cases_Bool (same_head (s.words.free_head (s.seat c).stack.locale) (s.seat c).stack.head))
+untouched s c (HandLink q word) quiet = record { header = refl; tag = refl; owned = λ d. refl; none = refl }
+untouched s c (HomeSwap top tail) quiet = record { header = refl; tag = refl; owned = same_owned s.seat c _ refl; none = refl }
 untouched s c HomeLink quiet = record { header = refl; tag = refl; owned = same_owned s.seat c _ refl; none = refl }
 untouched s c (HomeTake l) quiet = record { header = refl; tag = refl; owned = same_owned s.seat c _ refl; none = refl }
 untouched s c HomeWalk quiet = ⊎_elim (λ e. rw e (record { header = refl; tag = refl; owned = λ d. refl; none = refl })) (λ e. rw e (record { header = refl; tag = refl; owned = same_owned s.seat c _ refl; none = refl })) (cases_Bool (s.words.next (place_in ((s.seat c).homing.chain)) == pending))
@@ -130,86 +129,38 @@ reclaims_from s c (Release q) quiet h r = absurd quiet
 reclaims_from s c Leave quiet h r = inl (may_leave_reclaims _ _ _ h.1.0.0)
 reclaims_from s c (StackLook l) quiet h r = inl (own_seat Reclaims s.seat c _ r)
 reclaims_from s c StackNext quiet h r = inl (own_seat Reclaims s.seat c _ r)
-reclaims_from s c StackPop quiet h r = absurd quiet
-reclaims_from s c (StackPut top tail) quiet h r = absurd quiet
-reclaims_from s c (HandLink q word) quiet h r = absurd quiet
-reclaims_from s c (HomeSwap top tail) quiet h r = absurd quiet
+reclaims_from s c StackPop quiet h r = inl (either _ _ (same_head (s.words.free_head (s.seat c).stack.locale) (s.seat c).stack.head) c (own_seat Reclaims s.seat c _) (own_seat Reclaims s.seat c _) r)
+reclaims_from s c (StackPut top tail) quiet h r = inl (either _ _ (same_head (s.words.free_head (s.seat c).stack.locale) (s.seat c).stack.head) c (own_seat Reclaims s.seat c _) (own_seat Reclaims s.seat c _) r)
+reclaims_from s c (HandLink q word) quiet h r = inl r
+reclaims_from s c (HomeSwap top tail) quiet h r = inl (own_seat Reclaims s.seat c _ r)
 reclaims_from s c HomeLink quiet h r = inl (own_seat Reclaims s.seat c _ r)
 reclaims_from s c (HomeTake l) quiet h r = inl (own_seat Reclaims s.seat c _ r)
 reclaims_from s c HomeWalk quiet h r = inl (still _ _ (s.words.next (place_in ((s.seat c).homing.chain)) == pending) c (λ r. r) (own_seat Reclaims s.seat c _) r)
 
 -- the row of a quiet kind is one of what its seat knows of itself
-pub quiet_own : (k : Kind) → IsQuiet k → IsOwnRow k
-quiet_own (Register l n) quiet = tt
-quiet_own Unregister quiet = tt
-quiet_own PinLook quiet = tt
-quiet_own PinSet quiet = tt
-quiet_own Unpin quiet = tt
-quiet_own (TakeLook l i) quiet = tt
-quiet_own (TakeTry l i) quiet = absurd quiet
-quiet_own (Show q) quiet = absurd quiet
-quiet_own (Hold q) quiet = absurd quiet
-quiet_own (Touch q) quiet = absurd quiet
-quiet_own (Return q) quiet = absurd quiet
-quiet_own (DeferLook q) quiet = absurd quiet
-quiet_own DeferSwap quiet = tt
-quiet_own DeferLink quiet = tt
-quiet_own ElectLocal quiet = tt
-quiet_own ElectGlobal quiet = tt
-quiet_own EpochLook quiet = tt
-quiet_own ScanToken quiet = tt
-quiet_own Advance quiet = tt
-quiet_own Spread quiet = tt
-quiet_own Collect quiet = tt
-quiet_own Walk quiet = tt
-quiet_own (Release q) quiet = absurd quiet
-quiet_own Leave quiet = tt
-quiet_own (StackLook l) quiet = tt
-quiet_own StackNext quiet = tt
-quiet_own StackPop quiet = absurd quiet
-quiet_own (StackPut top tail) quiet = absurd quiet
-quiet_own (HandLink q word) quiet = absurd quiet
-quiet_own (HomeSwap top tail) quiet = absurd quiet
-quiet_own HomeLink quiet = tt
-quiet_own (HomeTake l) quiet = tt
-quiet_own HomeWalk quiet = tt
+-- a step is quiet, or an object changes hands by it
+pub quiet_or : (k : Kind) → IsMade k → IsQuiet k ⊎ Changes k
+quiet_or (TakeTry l i) made = inr tt
+quiet_or (Show q) made = inr tt
+quiet_or (Return q) made = inr tt
+quiet_or (DeferLook q) made = inr tt
+quiet_or (Release q) made = inr tt
+quiet_or (Hold q) made = absurd made
+quiet_or (Touch q) made = absurd made
+quiet_or _ made = inl tt
 
 module _ {Self View Call Reply State' : Type 0} (K : ClientTerms Self View Call Reply State') where
   -- what a pass knows of the client is changed by an unpin alone
-  pub unpin_or : (k : Kind) → (k ≡ Unpin) ⊎ ((view : View) → client_after K k view ≡ view)
-  unpin_or (Register l n) = inr (λ view. refl)
-  unpin_or Unregister = inr (λ view. refl)
-  unpin_or PinLook = inr (λ view. refl)
-  unpin_or PinSet = inr (λ view. refl)
-  unpin_or Unpin = inl refl
-  unpin_or (TakeLook l i) = inr (λ view. refl)
-  unpin_or (TakeTry l i) = inr (λ view. refl)
-  unpin_or (Show q) = inr (λ view. refl)
-  unpin_or (Hold q) = inr (λ view. refl)
-  unpin_or (Touch q) = inr (λ view. refl)
-  unpin_or (Return q) = inr (λ view. refl)
-  unpin_or (DeferLook q) = inr (λ view. refl)
-  unpin_or DeferSwap = inr (λ view. refl)
-  unpin_or DeferLink = inr (λ view. refl)
-  unpin_or ElectLocal = inr (λ view. refl)
-  unpin_or ElectGlobal = inr (λ view. refl)
-  unpin_or EpochLook = inr (λ view. refl)
-  unpin_or ScanToken = inr (λ view. refl)
-  unpin_or Advance = inr (λ view. refl)
-  unpin_or Spread = inr (λ view. refl)
-  unpin_or Collect = inr (λ view. refl)
-  unpin_or Walk = inr (λ view. refl)
-  unpin_or (Release q) = inr (λ view. refl)
-  unpin_or Leave = inr (λ view. refl)
-  unpin_or (StackLook l) = inr (λ view. refl)
-  unpin_or StackNext = inr (λ view. refl)
-  unpin_or StackPop = inr (λ view. refl)
-  unpin_or (StackPut top tail) = inr (λ view. refl)
-  unpin_or (HandLink q word) = inr (λ view. refl)
-  unpin_or (HomeSwap top tail) = inr (λ view. refl)
-  unpin_or HomeLink = inr (λ view. refl)
-  unpin_or (HomeTake l) = inr (λ view. refl)
-  unpin_or HomeWalk = inr (λ view. refl)
+  pub unpin_or : (seat : Seat) (k : Kind) → IsQuiet k → (k ≡ Unpin) ⊎ ((view : View) → client_after K seat k view ≡ view)
+  unpin_or seat (TakeTry l i) quiet = absurd quiet
+  unpin_or seat (Show q) quiet = absurd quiet
+  unpin_or seat (Hold q) quiet = absurd quiet
+  unpin_or seat (Touch q) quiet = absurd quiet
+  unpin_or seat (Return q) quiet = absurd quiet
+  unpin_or seat (DeferLook q) quiet = absurd quiet
+  unpin_or seat (Release q) quiet = absurd quiet
+  unpin_or seat Unpin quiet = inl refl
+  unpin_or seat _ quiet = inr (λ view. refl)
 
 -- the number of seats is the same after any steps
 pub seats_after : (s : State) (steps : List Step) → (state_after s steps).seats ≡ s.seats

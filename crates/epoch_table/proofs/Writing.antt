@@ -1,19 +1,67 @@
 -- A step on one word of a table that shows the machine's words.
 use Rattle.std.proofs.Common.{◌≡◌, ◌≢◌, ◌==◌, ◌&&◌, ◌+◌, ◌<◌, ◌≤◌, ℕ, Bool, true, false, ltb, List, length, set, slice_index, refl, ap, sym, ◌∙◌, subst, ⊎_elim, arith}
-use Rattle.std.proofs.lemmas.Bool.{cases_Bool, ltb-true}
+use Rattle.std.proofs.lemmas.Bool.{cases_Bool, ltb-true, lt-ltb}
 use Rattle.std.proofs.lemmas.Bool.Decides.{eqb_tells}
 use Rattle.std.proofs.lemmas.List.{get_or-set_same, get_or-set_other, set-get_or}
 use Rattle.std.specs.Prelude.{MatchBool}
 use prog.Atomic.{either}
 use Rattle.pgas_base.specs.declared.shapes.Shape.{Shape}
 use Rattle.epoch_laws.specs.Places.{Place}
+use Rattle.epoch_laws.specs.States.{IsPlace}
 use Rattle.epoch_laws.specs.Words.{Words, WordName, word_at}
 use Rattle.epoch_table.specs.Layout.{Site, Named, InRow, OfClient, named_place, client_place, place, IsNamed, IsSite}
-use Rattle.epoch_table.specs.Deeds.{Deed, Elsewhere, Loads, Stores, Swaps, Exchanges, Writes, Does}
+use Rattle.epoch_table.specs.Deeds.{Deed, Elsewhere, Loads, Stores, Swaps, Exchanges, Writes, Does, number_after}
 use Rattle.epoch_table.specs.Knowledge.{Finds}
 use Rattle.epoch_table.specs.Rule.{AreShown, is_in_row, row_word}
-use Rattle.epoch_table.specs.Kinds.{number_after, IsOn}
+use Rattle.epoch_table.specs.Kinds.{IsOn}
 use Rattle.epoch_table.proofs.Places.{one_site, named_within}
+
+first_true : (a b : Bool) → (a && b) ≡ true → a ≡ true
+first_true true b e = refl
+first_true false b e = e
+
+second_true : (a b : Bool) → (a && b) ≡ true → b ≡ true
+second_true true b e = e
+second_true false b e = absurd cc
+
+abbrev pub is_row : Site → Bool
+is_row (Named x) = false
+is_row (InRow q n) = true
+is_row (OfClient word) = false
+
+-- there is such a word in a row
+row_site : (shape : Shape) (p : Place) (at : ℕ) → is_in_row shape p at ≡ true → IsSite shape (InRow p at)
+row_site shape p at b =
+    let first = first_true (ltb p.locale shape.locales) (ltb 0 p.index && (ltb p.index (shape.objects + 1) && ltb at shape.width)) b in
+    let rest = second_true (ltb p.locale shape.locales) (ltb 0 p.index && (ltb p.index (shape.objects + 1) && ltb at shape.width)) b in
+    let some = first_true (ltb 0 p.index) (ltb p.index (shape.objects + 1) && ltb at shape.width) rest in
+    let more = second_true (ltb 0 p.index) (ltb p.index (shape.objects + 1) && ltb at shape.width) rest in
+    let most = first_true (ltb p.index (shape.objects + 1)) (ltb at shape.width) more in
+    let low = second_true (ltb p.index (shape.objects + 1)) (ltb at shape.width) more in
+    let a = ltb-true 0 p.index some in
+    let c = ltb-true p.index (shape.objects + 1) most in
+    (record { locale = ltb-true p.locale shape.locales first; some_object = omega (arith, a); index = omega (arith, c) }, ltb-true at shape.width low)
+
+-- and each word of an object's row is such a one
+pub in_row : (shape : Shape) (p : Place) (at : ℕ) → IsPlace shape p → at < shape.width → is_in_row shape p at ≡ true
+in_row shape p at is low =
+    let some = is.some_object in
+    let index = is.index in
+    rw (lt-ltb p.locale shape.locales is.locale, lt-ltb 0 p.index (omega (arith, some)), lt-ltb p.index (shape.objects + 1) (omega (arith, index)), lt-ltb at shape.width low) refl
+
+-- a number that is written at another word leaves a word of a row as it is
+pub row_else : (shape : Shape) (table : List ℕ) (site : Site) → IsSite shape site → (number : ℕ) (p : Place) (at : ℕ) → InRow p at ≢ site
+    → row_word shape (set table (place shape site) number) p at ≡ row_word shape table p at
+row_else shape table site is number p at other =
+    ⊎_elim
+    (λ b. rw b (get_or-set_other table (place shape site) (place shape (InRow p at)) number 0 (λ e. other (one_site shape (InRow p at) site (row_site shape p at b) is e))))
+    (λ b. rw b refl)
+    (cases_Bool (is_in_row shape p at))
+
+-- one that is written at another word than one of a row leaves the rows as they are
+pub row_stays : (shape : Shape) (table : List ℕ) (site : Site) → IsSite shape site → is_row site ≡ false → (number : ℕ) (p : Place) (at : ℕ)
+    → row_word shape (set table (place shape site) number) p at ≡ row_word shape table p at
+row_stays shape table site is other number p at = row_else shape table site is number p at (λ e. absurd (cc (sym other ∙ ap is_row (sym e))))
 
 module _ (shape : Shape) (table : List ℕ) (name : WordName) (is : IsNamed shape name) where
   -- what such a step finds is the machine's word
@@ -75,36 +123,4 @@ module _ (shape : Shape) (table : List ℕ) (name : WordName) (is : IsNamed shap
       get_or-set_other table (named_place shape name) (place shape (OfClient word)) number 0 (λ e. absurd (omega (arith, low, e)))
 
   pub row_kept : (number : ℕ) (p : Place) (at : ℕ) → row_word shape (set table (named_place shape name) number) p at ≡ row_word shape table p at
-  row_kept number p at =
-      ⊎_elim
-      (λ b. rw b (get_or-set_other table (named_place shape name) (place shape (InRow p at)) number 0 (apart b)))
-      (λ b. rw b refl)
-      (cases_Bool (is_in_row shape p at))
-    where
-      first_true : (a b : Bool) → (a && b) ≡ true → a ≡ true
-      first_true true b e = refl
-      first_true false b e = e
-
-      second_true : (a b : Bool) → (a && b) ≡ true → b ≡ true
-      second_true true b e = e
-      second_true false b e = absurd cc
-
-      inside : is_in_row shape p at ≡ true → IsSite shape (InRow p at)
-      inside b =
-          let first = first_true (ltb p.locale shape.locales) (ltb 0 p.index && (ltb p.index (shape.objects + 1) && ltb at shape.width)) b in
-          let rest = second_true (ltb p.locale shape.locales) (ltb 0 p.index && (ltb p.index (shape.objects + 1) && ltb at shape.width)) b in
-          let some = first_true (ltb 0 p.index) (ltb p.index (shape.objects + 1) && ltb at shape.width) rest in
-          let more = second_true (ltb 0 p.index) (ltb p.index (shape.objects + 1) && ltb at shape.width) rest in
-          let most = first_true (ltb p.index (shape.objects + 1)) (ltb at shape.width) more in
-          let low = second_true (ltb p.index (shape.objects + 1)) (ltb at shape.width) more in
-          let a = ltb-true 0 p.index some in
-          let c = ltb-true p.index (shape.objects + 1) most in
-          (record { locale = ltb-true p.locale shape.locales first; some_object = omega (arith, a); index = omega (arith, c) }, ltb-true at shape.width low)
-
-      is_row : Site → Bool
-      is_row (Named x) = false
-      is_row (InRow q n) = true
-      is_row (OfClient word) = false
-
-      apart : is_in_row shape p at ≡ true → place shape (InRow p at) ≢ named_place shape name
-      apart b e = absurd (cc (ap is_row (one_site shape (InRow p at) (Named name) (inside b) is e)))
+  row_kept = row_stays shape table (Named name) is refl

@@ -1,5 +1,6 @@
 -- The step on one word that each kind of step of the machine is.
 use Rattle.std.specs.Prelude.{◌≡◌, ◌≢◌, ◌==◌, ℕ, ◌+◌, ◌%◌, if◌then◌else◌, MatchBool, Option, Some, None}
+use prog.Atomic.{either}
 use Rattle.pgas_base.specs.Pointers.{word_of}
 use Rattle.pool_core.specs.Headers.{header_word, released_word}
 use Rattle.pool_core.specs.FreeWords.{free_head_word}
@@ -67,6 +68,14 @@ deed seat (HomeSwap top tail) = Swaps (home_chain top.locale) (word_of top)
 deed seat HomeLink = tail_linked seat.homing.tail seat.homing.old
 deed seat (HomeTake locale) = Swaps (home_chain locale) 0
 deed seat HomeWalk = Loads (next_of (place_in seat.homing.chain))
+
+-- what a step leaves in its word, where it finds this number
+abbrev pub number_after : Deed → ℕ → ℕ
+number_after Elsewhere found = found
+number_after (Loads name) found = found
+number_after (Stores name number) found = number
+number_after (Swaps name number) found = number
+number_after (Exchanges name old new) found = either (found == old) new found
 
 -- the words after a number was written at one name
 pub record Writes (words : Words) (name : WordName) (number : ℕ) (after : Words) : Type 0 where

@@ -1,6 +1,7 @@
 -- The history of a manager: the items of its machine, and the entries of its client.
 use Rattle.std.specs.Prelude.{◌≡◌, ℕ, List, [], ◌∷◌, ◌++◌}
 use Rattle.pass_book.specs.declared.entries.Entry.{Entry}
+use Rattle.epoch_laws.specs.declared.events.EpochEvent.TheVariants.{Returned}
 use Rattle.epoch_laws.specs.declared.events.Item.{Item}
 use Rattle.epoch_laws.specs.declared.events.Item.TheVariants.{Event, Advance, Claim, Leave}
 use Rattle.epoch_laws.specs.Histories.{IsLegalHistory}
@@ -8,6 +9,12 @@ use Rattle.epoch_laws.specs.Items.{happenings, IsExactRelease}
 use Rattle.epoch_table.specs.declared.events.Happens.{Happens}
 use Rattle.epoch_table.specs.declared.events.Happens.TheVariants.{Lists, Enters}
 use Rattle.epoch_table.specs.declared.events.Past.{Past}
+
+-- no object was given back
+unfoldable pub HasNoReturn : List Item → Type 0
+HasNoReturn [] = Unit {0}
+HasNoReturn (Event seat (Returned pointer) tag ∷ items) = ⊥
+HasNoReturn (_ ∷ items) = HasNoReturn items
 
 -- the seat of an item
 abbrev pub seat_of : Item → ℕ

@@ -1,9 +1,11 @@
 -- Where the words of a manager stand in its table.
 -- The two global words come first. Then each locale has five cache lines: its epoch, its election, its four lists, the head of its stack and that of its
 -- home chain. Then each token has a line. Then each object has its header, its next word and its row. Then each word of the client has a line.
-use Rattle.std.specs.Prelude.{◌≡◌, ℕ, ◌+◌, ◌-◌, ◌*◌, ◌/◌, ◌%◌, ◌<◌, ltb, if◌then◌else◌}
+use Rattle.std.specs.Prelude.{ℕ, ◌+◌, ◌-◌, ◌*◌, ◌/◌, ◌%◌, ◌<◌, ltb, if◌then◌else◌}
 use Rattle.pgas_base.specs.declared.shapes.Shape.{Shape}
-use Rattle.epoch_laws.specs.Places.{Place}
+use Rattle.pgas_base.specs.declared.spots.Spot.{Spot}
+use Rattle.pgas_base.specs.declared.spots.Spot.TheVariants.{Own as OwnSpot, Row as RowSpot}
+use Rattle.epoch_laws.specs.Places.{Place, place_of}
 use Rattle.pgas_base.specs.declared.starts.Start.{Start}
 use Rattle.epoch_laws.specs.States.{IsPlace, opening_words}
 use Rattle.epoch_laws.specs.Timing.{IsToken}
@@ -14,6 +16,11 @@ pub data Site : Type 0 where
   Named : WordName → Site
   InRow : Place → ℕ → Site
   OfClient : ℕ → Site
+
+-- the word of a spot
+abbrev pub site_of : Spot → Site
+site_of (OwnSpot word) = OfClient word
+site_of (RowSpot q at) = InRow (place_of q) at
 
 -- the words of one cache line
 abbrev pub line : ℕ

@@ -1,7 +1,12 @@
 pub mod Layout
 pub mod Deeds
+pub mod Numbers
+pub mod Facts
 pub mod Knowledge
 pub mod Events
+pub mod Heads
 pub mod Clients
 pub mod Rule
 pub mod Kinds
+pub mod Spots
+pub mod RowSteps

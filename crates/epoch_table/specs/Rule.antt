@@ -1,26 +1,31 @@
 -- The rule of a manager's table: there is a run of the machine whose last state the words show, word by word; each pass has a seat of it; its items are those of
 -- the history; and the client's rule holds of the rest.
-use Rattle.std.specs.Prelude.{◌≡◌, ℕ, ◌+◌, ◌<◌, ◌≤◌, ◌&&◌, Bool, true, false, ltb, if◌then◌else◌, List, [], ◌∷◌, length, slice_index}
+use Rattle.std.specs.Prelude.{◌≡◌, ◌⊎◌, ℕ, ◌+◌, ◌<◌, ◌≤◌, ◌&&◌, Bool, true, false, ltb, if◌then◌else◌, List, [], ◌∷◌, length, slice_index}
 use Rattle.pass_book.specs.declared.entries.Entry.{Entry}
 use Rattle.pgas_base.specs.declared.shapes.Shape.{Shape}
 use Rattle.pgas_base.specs.Shapes.{IsShape}
 use Rattle.pgas_base.specs.Starts.{IsStart}
 use Rattle.epoch_laws.specs.declared.steps.Step.{Step}
 use Rattle.epoch_laws.specs.Places.{Place}
-use Rattle.epoch_laws.specs.Words.{Words, WordName, global_epoch, word_at}
+use Rattle.epoch_laws.specs.Words.{Words, WordName, global_epoch, global_election, local_epoch, local_election, token, header_of, word_at}
 use Rattle.epoch_laws.specs.Seats.{Phase, Idle, Registered, Pinned, Scanning, Advanced, is_reclaiming}
 use Rattle.epoch_laws.specs.ReclaimSteps.{last_epoch}
 use Rattle.epoch_laws.specs.States.{State, opening, opening_seat}
 use Rattle.epoch_laws.specs.Runs.{IsRun, state_after, items_of}
 use Rattle.epoch_laws.specs.Items.{epoch_of}
+use Rattle.epoch_laws.specs.Accounts.{account}
+use Rattle.pool_core.specs.Headers.{header_word}
+use Rattle.pgas_base.specs.declared.starts.Start.{Start}
 use Rattle.pass_table.specs.Terms.{Terms, Moment}
 use Rattle.epoch_table.specs.declared.events.Happens.{Happens}
 use Rattle.epoch_table.specs.declared.events.Happens.TheVariants.{Lists, Enters}
 use Rattle.epoch_table.specs.declared.events.Past.{Past}
 use Rattle.epoch_table.specs.declared.parts.Plan.{Plan}
 use Rattle.epoch_table.specs.declared.parts.Part.{Part}
+use Rattle.epoch_table.specs.Facts.{no_facts, AreFacts}
 use Rattle.epoch_table.specs.Layout.{InRow, OfClient, place, named_place, table_words, IsNamed}
-use Rattle.epoch_table.specs.Events.{seat_of, items_in, entries_in}
+use Rattle.epoch_table.specs.Events.{HasNoReturn, seat_of, items_in, entries_in}
+use Rattle.epoch_table.specs.Heads.{winners, givens}
 use Rattle.epoch_table.specs.Clients.{ClientTerms, Scene, thing_of, deferrals_in}
 
 -- the words of the table show those of the machine
@@ -66,10 +71,17 @@ module _ {Call Reply : Type 0} where
   AreOwn [] = Unit {0}
   AreOwn (e ∷ h) = elim (e.call) [ Lists item ↦ (seat_of item ≡ e.caller) × AreOwn h | Enters call reply ↦ AreOwn h ]
 
-  -- what a word of the machine shows of the history at that moment: the global epoch is the history's
-  abbrev pub Shows : ℕ → List (Entry (Happens Call Reply) (Unit {0})) → WordName → ℕ → Type 0
-  Shows first h global_epoch word = word ≡ epoch_of first (items_in h)
-  Shows first h name word = Unit {0}
+  -- What a word of the machine shows of the history at that moment: the global epoch is the history's, a locale's is that too, or one less while the global
+  -- election is won, and the words of tokens and elections and the headers are what its items say
+  abbrev pub Shows : Start → List (Entry (Happens Call Reply) (Unit {0})) → WordName → ℕ → Type 0
+  Shows start h global_epoch word = word ≡ epoch_of start.epoch (items_in h)
+  Shows start h (local_epoch l) word =
+      let epoch = epoch_of start.epoch (items_in h) in (word ≡ epoch) ⊎ ((word + 1 ≡ epoch) × ((account start.count (items_in h)).election ≡ 1))
+  Shows start h global_election word = word ≡ (account start.count (items_in h)).election
+  Shows start h (local_election l) word = word ≡ (account start.count (items_in h)).election_of l
+  Shows start h (token t) word = word ≡ (account start.count (items_in h)).token_word t
+  Shows start h (header_of p) word = let header = (account start.count (items_in h)).header p in word ≡ header_word header.count header.state
+  Shows start h name word = Unit {0}
 
 module _ {View Call Reply : Type 0} where
   -- all that the client's rule may speak of, at one moment
@@ -96,8 +108,15 @@ module _ {Self View Call Reply State' : Type 0} (K : ClientTerms Self View Call 
     pub wide : length m.words ≡ table_words plan.shape plan.own
     pub shown : AreShown plan.shape m.words (state_after (opening plan.shape plan.start plan.callers) steps).words
     pub seats : (c : ℕ) → (m.parts c).seat ≡ (state_after (opening plan.shape plan.start plan.callers) steps).seat c
+    -- what each pass knows of the objects that it has is so
+    pub facts : (c : ℕ) → AreFacts (state_after (opening plan.shape plan.start plan.callers) steps).words ((m.parts c).seat) ((m.parts c).facts)
+    -- a stack's head has changed once for each object given, or is owed by a seat that has won since its last take
+    pub heads : (l : ℕ) → ((state_after (opening plan.shape plan.start plan.callers) steps).words.free_head l).count
+        ≤ plan.start.stack + givens (items_in m.history) + winners plan.callers (λ c. (m.parts c).won)
     pub small : AreSmall (state_after (opening plan.shape plan.start plan.callers) steps)
     pub low : AreLow (state_after (opening plan.shape plan.start plan.callers) steps)
+    -- where the client allows no give-back there is none
+    pub returns : (K.gives_back → ⊥) → HasNoReturn (items_in m.history)
     -- only a pass to which the client allows it reclaims
     pub reclaims : (c : ℕ) → is_reclaiming ((m.parts c).seat).phase ≡ true → K.may_reclaim (m.parts c).client ((m.parts c).seat).owned
     pub client : K.holds plan.client plan.shape (scene_of plan.shape m.words (state_after (opening plan.shape plan.start plan.callers) steps) m.history (λ c. (m.parts c).client))
@@ -107,10 +126,10 @@ module _ {Self View Call Reply State' : Type 0} (K : ClientTerms Self View Call 
   manager_terms = record {
     start = λ plan. record { epoch = plan.start.epoch; count = plan.start.count; items = []; object = K.start plan.client };
     callers = λ plan. plan.callers;
-    first = record { seat = opening_seat; client = K.first };
+    first = record { seat = opening_seat; facts = no_facts; won = false; client = K.first };
     rests = λ part. is_between part.seat.phase;
     first_word = global_epoch;
     size = λ n. n;
-    shows = λ plan h name word. Shows plan.start.epoch h name word;
+    shows = λ plan h name word. Shows plan.start h name word;
     holds = ManagerRule;
   }

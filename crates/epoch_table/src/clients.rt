@@ -6,7 +6,7 @@ use pass_book::Object;
 /// links and what always holds of them. Its laws are those that the manager needs of it.
 pub trait Client: Drop {
     ghost use Rattle.std.specs.Prelude.{◌≡◌, ◌≤◌, ◌^◌};
-    ghost use Rattle.epoch_table.specs.Clients.{ClientTerms, ObjectOpens, Opens, Links, KeptByUnpins};
+    ghost use Rattle.epoch_table.specs.Clients.{ClientTerms, ObjectOpens, Opens, Links, KeptByTakes, KeptByShows, KeptByReturns, KeptByDeferrals, KeptByFrees, KeptByFills, KeptByHolds, KeptBySteps, KeptByUnpins};
 
     /// The object of one thread whose steps its entries are.
     type Object: Object;
@@ -31,6 +31,30 @@ pub trait Client: Drop {
     /// Each link is 0 or names an object that is shown and not deferred.
     ghost links: { Links terms };
 
-    /// The rule is kept where a pass unpins.
+    /// The rule is kept where an object becomes a pass's own that the client allows it to take.
+    ghost kept_by_takes: { KeptByTakes terms };
+
+    /// It is kept where a pass shows an object of its own.
+    ghost kept_by_shows: { KeptByShows terms };
+
+    /// It is kept where a pass gives an object back that was never shown, if the client allows give-backs.
+    ghost kept_by_returns: { KeptByReturns terms };
+
+    /// What a pass has cut out of its last link is shown and not deferred, and the rule is kept where it defers that.
+    ghost kept_by_deferrals: { KeptByDeferrals terms };
+
+    /// The rule is kept where an object is released after its deferral.
+    ghost kept_by_frees: { KeptByFrees terms };
+
+    /// It is kept where a word of an object of the pass's own is filled.
+    ghost kept_by_fills: { KeptByFills terms };
+
+    /// It is kept where a pass holds what a link names.
+    ghost kept_by_holds: { KeptByHolds terms Self.Object.opens Self.Object.step };
+
+    /// It is kept by each step on a word that the client allows.
+    ghost kept_by_steps: { KeptBySteps terms Self.Object.opens Self.Object.step };
+
+    /// It is kept where a pass unpins.
     ghost kept_by_unpins: { KeptByUnpins terms };
 }

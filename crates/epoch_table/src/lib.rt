@@ -5,14 +5,19 @@
 //! show. So what holds of every run holds of the words at every moment, whatever order the steps are made in.
 //!
 //! Each function makes one step of its kind, where the kind's row is met by what the caller's seat knows; it answers
-//! the number that it read, and its clause says what the step left the seat and listed. There are functions
-//! for the steps on tokens, elections, the scan and the advance, and for the looks of a take; an opening, notes and
-//! a close. A `Client` brings words of its own, an object whose entries stand in the same history, and a rule.
+//! the number that it read, and its clause says what the step left the seat and listed. There are functions for all
+//! kinds but the hold of a link, for the steps on the client's own words and on rows of objects that a pass holds or
+//! owns; an opening, notes and a close. What a pass knows of the objects that it has, as far as its own steps told it,
+//! no other's step changes. A `Client` brings words of its own, an object whose entries stand in the same history, and a
+//! rule; its laws say that the rule is kept where an object is taken, shown, given back, deferred or freed.
 #![tactic(auto)]
 
 mod clients;
+mod closed_words;
 mod closing;
+mod deferrals;
 mod events;
+mod homes;
 mod kinds;
 mod layout;
 mod notes;
@@ -20,6 +25,10 @@ mod opening;
 mod opening_words;
 mod parts;
 mod reclaims;
+mod releases;
+mod rows;
+mod spots;
+mod stacks;
 mod steps;
 mod tables;
 mod takes;
@@ -27,9 +36,10 @@ mod tokens;
 mod words;
 
 pub use clients::Client;
+pub use closed_words::{client_word, row_word};
 pub use events::{Happens, History, Past};
 pub use kinds::{Choice, Chosen};
-pub use parts::{Name, Part, Plan, Seated};
+pub use parts::{Known, Name, Part, Plan, Seated};
 pub use tables::Manages;
 pub use words::{CallOf, ReplyOf, TableNote, TablePass, TableSeat, Words};
 

@@ -26,6 +26,17 @@ impl Model for Seated {
     ghost view = { λ s. opening_seat };
 }
 
+/// What a pass knows of the words of the objects that it has, which contracts see. No value of it is made.
+pub struct Known;
+
+impl Model for Known {
+    ghost use Rattle.epoch_table.specs.Facts.{Facts, no_facts};
+
+    ghost Value = { Facts };
+
+    ghost view = { λ s. no_facts };
+}
+
 /// The name of a word of the machine, which contracts see. No value of it is made.
 pub struct Name;
 
@@ -37,8 +48,12 @@ impl Model for Name {
     ghost view = { λ s. global_epoch };
 }
 
-/// What a pass knows: its seat of the machine, and the client's part. No value of it is made.
+/// What a pass knows: its seat of the machine, the words of the objects that it has, and the client's part.
+/// No value of it is made.
 pub struct Part<V> {
     pub seat: Seated,
+    pub facts: Known,
+    /// It has won an exchange of a stack's head since it last took an object.
+    pub won: bool,
     pub client: V,
 }

@@ -22,7 +22,7 @@ impl Object for Silence {
 struct Nobody;
 
 impl Client for Nobody {
-    ghost use Rattle.std.specs.Prelude.{false};
+    ghost use Rattle.std.specs.Prelude.{false, None};
     ghost use Rattle.std.proofs.lemmas.Bool.{false≢true};
 
     type Object = Silence;
@@ -34,7 +34,12 @@ impl Client for Nobody {
       start = λ c. tt;
       first = tt;
       unpinned = λ v. v;
+      may_take = λ v l. Unit {0};
       may_reclaim = λ v l. Unit {0};
+      gives_back = Unit {0};
+      may = λ v a. ⊥;
+      after = λ v a n. tt;
+      enters = λ v a n. None;
       is_own_link = λ w. false;
       is_row_link = λ w. false;
       holds = λ c s x. Unit {0};
@@ -49,6 +54,22 @@ impl Client for Nobody {
     ghost opens = { λ c s. tt };
 
     ghost links = { λ c s x h. (λ w low is. absurd (false≢true is), λ p n at row standing which here low is. absurd (false≢true is)) };
+
+    ghost kept_by_takes = { λ c s x d q row h may none. tt };
+
+    ghost kept_by_shows = { λ c s x d q row h may. absurd may };
+
+    ghost kept_by_returns = { λ c s x d q row h may own at. tt };
+
+    ghost kept_by_deferrals = { λ c s x d q h may. absurd may };
+
+    ghost kept_by_frees = { λ c s x d q row h may at. (tt, tt) };
+
+    ghost kept_by_fills = { λ c s x d q at value row h may. absurd may };
+
+    ghost kept_by_holds = { λ c s x d spot found h is at. (tt, λ legal. legal) };
+
+    ghost kept_by_steps = { λ c s x d spot change found h may. absurd may };
 
     ghost kept_by_unpins = { λ c s x d h. tt };
 }

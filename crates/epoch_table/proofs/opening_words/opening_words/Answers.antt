@@ -1,4 +1,4 @@
-use Rattle.std.proofs.Common.{◌≡◌, ◌<◌, ◌+◌, ◌*◌, ◌∙◌, ap, arith, length, ℕ}
+use Rattle.std.proofs.Common.{◌≡◌, ap, arith, length, ℕ}
 use Rattle.pass_table.proofs.Lists.{in_order_more, count_after}
 use Rattle.epoch_table.specs.Layout.{opening_number, site_at, table_words}
 use Rattle.epoch_table.proofs.Openings.{in_order_at, in_order_none}

@@ -5,7 +5,7 @@ use Rattle.epoch_table.specs.Events.{PastOpens, PastSteps}
 use Rattle.epoch_table.specs.Rule.{manager_terms}
 use Rattle.epoch_table.specs.Kinds.{TellsKind}
 use Rattle.pass_table.specs.Steps.{Steps}
-use Rattle.epoch_table.proofs.Permitted.{may_load, loads_within, makes_of}
+use Rattle.epoch_table.proofs.Permitted.{lawful_of, may_load, loads_within, makes_of}
 use Rattle.epoch_table.proofs.words.Words.load.Goals as goal
 
 pub load-requires-clause-word : goal.load-requires-clause-word
@@ -18,7 +18,7 @@ load-requires-clause-permits g c =
     let me = c.args.seat.now.seat.me in
     let at : LoadsAt plan.shape (deed me.0.part.seat c.args.kind) c.args.word = subst (λ s. LoadsAt s (deed me.0.part.seat c.args.kind) c.args.word) (sym c.args.self.now.planned) c.requires.at in
     subst (λ k. Permitted g.C.Client.terms g.C.Object.Object.opens g.C.Object.Object.step plan c.args.self.now.table.table.shared.table_id.slots k me c.args.word (λ n. n) (λ n. n)) (sym c.requires.kind)
-    (may_load g.C.Client.terms g.C.Object.Object.opens g.C.Object.Object.step g.met.C.Client.kept_by_unpins plan _ c.args.kind me c.requires.may c.args.word at)
+    (may_load g.C.Client.terms g.C.Object.Object.opens g.C.Object.Object.step (lawful_of g.met.C.Client.kept_by_takes g.met.C.Client.kept_by_shows g.met.C.Client.kept_by_returns g.met.C.Client.kept_by_deferrals g.met.C.Client.kept_by_frees g.met.C.Client.kept_by_unpins) plan _ c.args.kind me c.requires.may c.args.word at)
 
 pub returns-clause-makes : goal.returns-clause-makes
 returns-clause-makes g c =

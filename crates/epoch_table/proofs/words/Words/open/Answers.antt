@@ -1,4 +1,4 @@
-use Rattle.std.proofs.Common.{◌≡◌, ◌<◌, ◌∙◌, ap, arith, length, map, refl, slice_index, subst, sym, ℕ, List}
+use Rattle.std.proofs.Common.{◌≡◌, ◌<◌, arith, length, map, refl, slice_index, subst, sym, ℕ, List}
 use mathlib.Core.Option.{some}
 use Rattle.epoch_table.specs.Layout.{opening_number, site_at, table_words}
 use Rattle.epoch_table.proofs.Openings.{opens_with}

@@ -1,0 +1,4 @@
+use Rattle.epoch_table.proofs.words.Words.hand_link.Given as goal
+
+abbrev pub ghosts-store : goal.ghosts-store
+ghosts-store g a = record { kind = a.kind }
