@@ -1,0 +1,6 @@
+pub mod Rows
+pub mod Told
+pub mod TokenSteps
+pub mod PassClauses
+pub mod Openings
+pub mod Closings

@@ -1,0 +1,162 @@
+use Rattle.std.proofs.Common.{◌∙◌, sym, ap, subst}
+use Rattle.pass_table.specs.Passes.{me_of}
+use Rattle.epoch_manager.specs.Managers.{plan_of, ListsItems, ReadsWords}
+use Rattle.epoch_manager.proofs.PassClauses.{stands_idle, register_done, refused_done, taken_rests, done_listed, done_read, done_begins, done_fits, Changed}
+use Rattle.epoch_manager.proofs.managers.Manager.register.Goals as goal
+use Rattle.epoch_manager.specs.Tokens.{registered_items, RegisterCause}
+
+pub take_token-taken-requires-clause-below : goal.take_token-taken-requires-clause-below
+take_token-taken-requires-clause-below g c =
+    let K = g.C.Client.terms in
+    let o = g.C.Object.Object.opens in
+    let s = g.C.Object.Object.step in
+    let p = plan_of c.args.self.now in
+    let m = me_of c.args.pass.now.pass.seat in
+    let phase = c.args.pass.now.phase in
+    let fits = c.args.pass.now.fits p (ap (λ x. x.plan) c.requires.opening) in
+    fits.below
+
+pub take_token-taken-requires-clause-idle : goal.take_token-taken-requires-clause-idle
+take_token-taken-requires-clause-idle g c =
+    let K = g.C.Client.terms in
+    let o = g.C.Object.Object.opens in
+    let s = g.C.Object.Object.step in
+    let p = plan_of c.args.self.now in
+    let m = me_of c.args.pass.now.pass.seat in
+    let phase = c.args.pass.now.phase in
+    let fits = c.args.pass.now.fits p (ap (λ x. x.plan) c.requires.opening) in
+    stands_idle m.0.part.seat phase c.requires.phase fits.stands
+
+pub invariant_of-pass : goal.invariant_of-pass
+invariant_of-pass g c =
+    let K = g.C.Client.terms in
+    let o = g.C.Object.Object.opens in
+    let s = g.C.Object.Object.step in
+    let p = plan_of c.args.self.now in
+    let m = me_of c.args.pass.now.pass.seat in
+    let phase = c.args.pass.now.phase in
+    let fits = c.args.pass.now.fits p (ap (λ x. x.plan) c.requires.opening) in
+    let n = me_of c.take_token-taken.new.seat in
+    let idle = stands_idle m.0.part.seat phase c.requires.phase fits.stands in
+    let r = taken_rests K o s p c.args.locale m n c.take_token-taken.result idle c.take_token-taken.ensures.takes in
+    (r.0, (r.1 ∙ c.args.pass.now.pass.empty_handed, tt))
+
+pub invariant_of-pass-in_default : goal.invariant_of-pass-in_default
+invariant_of-pass-in_default g c =
+    let K = g.C.Client.terms in
+    let o = g.C.Object.Object.opens in
+    let s = g.C.Object.Object.step in
+    let p = plan_of c.args.self.now in
+    let m = me_of c.args.pass.now.pass.seat in
+    let phase = c.args.pass.now.phase in
+    let fits = c.args.pass.now.fits p (ap (λ x. x.plan) c.requires.opening) in
+    let n = me_of c.take_token-taken.new.seat in
+    let idle = stands_idle m.0.part.seat phase c.requires.phase fits.stands in
+    let takes = c.in_default.ensures.takes in
+    let d = refused_done K o s p m n phase fits c.args.locale takes idle in
+    record { fits = done_fits K o s p m n _ _ _ _ d (ap (λ x. x.plan) c.take_token-taken.ensures.seat) }
+
+pub returns-in_default-clause-history : goal.returns-in_default-clause-history
+returns-in_default-clause-history g c =
+    let K = g.C.Client.terms in
+    let o = g.C.Object.Object.opens in
+    let s = g.C.Object.Object.step in
+    let p = plan_of c.args.self.now in
+    let m = me_of c.args.pass.now.pass.seat in
+    let phase = c.args.pass.now.phase in
+    let fits = c.args.pass.now.fits p (ap (λ x. x.plan) c.requires.opening) in
+    let n = me_of c.take_token-taken.new.seat in
+    let idle = stands_idle m.0.part.seat phase c.requires.phase fits.stands in
+    let takes = c.in_default.ensures.takes in
+    let d = refused_done K o s p m n phase fits c.args.locale takes idle in
+    subst (λ f. ListsItems K o s p (Changed K o s p m n takes.0) (registered_items m.0.number f)) (sym c.requires.phase) (done_listed K o s p m n _ _ _ _ d)
+
+pub returns-in_default-clause-cause : goal.returns-in_default-clause-cause
+returns-in_default-clause-cause g c =
+    let K = g.C.Client.terms in
+    let o = g.C.Object.Object.opens in
+    let s = g.C.Object.Object.step in
+    let p = plan_of c.args.self.now in
+    let m = me_of c.args.pass.now.pass.seat in
+    let phase = c.args.pass.now.phase in
+    let fits = c.args.pass.now.fits p (ap (λ x. x.plan) c.requires.opening) in
+    let n = me_of c.take_token-taken.new.seat in
+    let idle = stands_idle m.0.part.seat phase c.requires.phase fits.stands in
+    let takes = c.in_default.ensures.takes in
+    let d = refused_done K o s p m n phase fits c.args.locale takes idle in
+    subst (λ f. ReadsWords K o s p (Changed K o s p m n takes.0) (RegisterCause p.shape c.args.locale f)) (sym c.requires.phase) (done_read K o s p m n _ _ _ _ d _ takes.1)
+
+pub returns-in_default-clause-grows : goal.returns-in_default-clause-grows
+returns-in_default-clause-grows g c =
+    let K = g.C.Client.terms in
+    let o = g.C.Object.Object.opens in
+    let s = g.C.Object.Object.step in
+    let p = plan_of c.args.self.now in
+    let m = me_of c.args.pass.now.pass.seat in
+    let phase = c.args.pass.now.phase in
+    let fits = c.args.pass.now.fits p (ap (λ x. x.plan) c.requires.opening) in
+    let n = me_of c.take_token-taken.new.seat in
+    let idle = stands_idle m.0.part.seat phase c.requires.phase fits.stands in
+    let takes = c.in_default.ensures.takes in
+    let d = refused_done K o s p m n phase fits c.args.locale takes idle in
+    done_begins K o s p m n _ _ _ _ d
+
+pub invariant_of-pass-2 : goal.invariant_of-pass-2
+invariant_of-pass-2 g c =
+    let K = g.C.Client.terms in
+    let o = g.C.Object.Object.opens in
+    let s = g.C.Object.Object.step in
+    let p = plan_of c.args.self.now in
+    let m = me_of c.args.pass.now.pass.seat in
+    let phase = c.args.pass.now.phase in
+    let fits = c.args.pass.now.fits p (ap (λ x. x.plan) c.requires.opening) in
+    let n = me_of c.take_token-taken.new.seat in
+    let idle = stands_idle m.0.part.seat phase c.requires.phase fits.stands in
+    let takes = c.in-Some.ensures.takes in
+    let d = register_done K o s p m n phase fits c.args.locale c.in-Some.number takes c.requires.locale in
+    record { fits = done_fits K o s p m n _ _ _ _ d (ap (λ x. x.plan) c.take_token-taken.ensures.seat) }
+
+pub returns-clause-history : goal.returns-clause-history
+returns-clause-history g c =
+    let K = g.C.Client.terms in
+    let o = g.C.Object.Object.opens in
+    let s = g.C.Object.Object.step in
+    let p = plan_of c.args.self.now in
+    let m = me_of c.args.pass.now.pass.seat in
+    let phase = c.args.pass.now.phase in
+    let fits = c.args.pass.now.fits p (ap (λ x. x.plan) c.requires.opening) in
+    let n = me_of c.take_token-taken.new.seat in
+    let idle = stands_idle m.0.part.seat phase c.requires.phase fits.stands in
+    let takes = c.in-Some.ensures.takes in
+    let d = register_done K o s p m n phase fits c.args.locale c.in-Some.number takes c.requires.locale in
+    done_listed K o s p m n _ _ _ _ d
+
+pub returns-clause-cause : goal.returns-clause-cause
+returns-clause-cause g c =
+    let K = g.C.Client.terms in
+    let o = g.C.Object.Object.opens in
+    let s = g.C.Object.Object.step in
+    let p = plan_of c.args.self.now in
+    let m = me_of c.args.pass.now.pass.seat in
+    let phase = c.args.pass.now.phase in
+    let fits = c.args.pass.now.fits p (ap (λ x. x.plan) c.requires.opening) in
+    let n = me_of c.take_token-taken.new.seat in
+    let idle = stands_idle m.0.part.seat phase c.requires.phase fits.stands in
+    let takes = c.in-Some.ensures.takes in
+    let d = register_done K o s p m n phase fits c.args.locale c.in-Some.number takes c.requires.locale in
+    done_read K o s p m n _ _ _ _ d _ takes.1
+
+pub returns-clause-grows : goal.returns-clause-grows
+returns-clause-grows g c =
+    let K = g.C.Client.terms in
+    let o = g.C.Object.Object.opens in
+    let s = g.C.Object.Object.step in
+    let p = plan_of c.args.self.now in
+    let m = me_of c.args.pass.now.pass.seat in
+    let phase = c.args.pass.now.phase in
+    let fits = c.args.pass.now.fits p (ap (λ x. x.plan) c.requires.opening) in
+    let n = me_of c.take_token-taken.new.seat in
+    let idle = stands_idle m.0.part.seat phase c.requires.phase fits.stands in
+    let takes = c.in-Some.ensures.takes in
+    let d = register_done K o s p m n phase fits c.args.locale c.in-Some.number takes c.requires.locale in
+    done_begins K o s p m n _ _ _ _ d

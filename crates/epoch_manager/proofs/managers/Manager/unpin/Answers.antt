@@ -1,0 +1,154 @@
+use Rattle.std.proofs.Common.{◌∙◌, sym, ap, refl, subst, inr, []}
+use Rattle.epoch_laws.specs.declared.events.EpochEvent.TheVariants.{Unpinned}
+use Rattle.epoch_laws.specs.Needs.{event}
+use Rattle.epoch_laws.specs.Timing.{IsToken}
+use Rattle.pass_table.specs.Passes.{me_of}
+use Rattle.epoch_manager.specs.Managers.{plan_of, ListsItems}
+use Rattle.epoch_manager.proofs.PassClauses.{stands_pinned, inside_so, may_unpin, unpin_done, done_listed, done_begins, done_fits, done_looked, same_pinned, Changed}
+use Rattle.epoch_manager.proofs.managers.Manager.unpin.Goals as goal
+
+pub unpin-requires-clause-token : goal.unpin-requires-clause-token
+unpin-requires-clause-token g c =
+    let K = g.C.Client.terms in
+    let o = g.C.Object.Object.opens in
+    let s = g.C.Object.Object.step in
+    let p = plan_of c.args.self.now in
+    let m = me_of c.args.pass.now.pass.seat in
+    let phase = c.args.pass.now.phase in
+    let fits = c.args.pass.now.fits p (ap (λ x. x.plan) c.requires.opening) in
+    let is = c.in-Pinned.is in
+    let t = c.in-Pinned.token in
+    (sym (stands_pinned m.0.part.seat phase t is fits.stands).1, subst (λ h. IsToken h.locales h.tokens t) c.args.self.now.words.planned (inside_so K o s p phase t m.0 fits (inr is)))
+
+pub unpin-requires-clause-may : goal.unpin-requires-clause-may
+unpin-requires-clause-may g c =
+    let K = g.C.Client.terms in
+    let o = g.C.Object.Object.opens in
+    let s = g.C.Object.Object.step in
+    let p = plan_of c.args.self.now in
+    let m = me_of c.args.pass.now.pass.seat in
+    let phase = c.args.pass.now.phase in
+    let fits = c.args.pass.now.fits p (ap (λ x. x.plan) c.requires.opening) in
+    let is = c.in-Pinned.is in
+    let t = c.in-Pinned.token in
+    may_unpin K o s p m phase t fits is
+
+pub invariant_of-pass : goal.invariant_of-pass
+invariant_of-pass g c =
+    let K = g.C.Client.terms in
+    let o = g.C.Object.Object.opens in
+    let s = g.C.Object.Object.step in
+    let p = plan_of c.args.self.now in
+    let m = me_of c.args.pass.now.pass.seat in
+    let phase = c.args.pass.now.phase in
+    let fits = c.args.pass.now.fits p (ap (λ x. x.plan) c.requires.opening) in
+    let is = c.in-Pinned.is in
+    let t = c.in-Pinned.token in
+    let n = me_of c.unpin.new.seat in
+    let d = unpin_done K o s p m n phase fits t is c.unpin.ensures.makes in
+    (d.rests, (d.carried ∙ c.args.pass.now.pass.empty_handed, tt))
+
+pub invariant_of-pass-2 : goal.invariant_of-pass-2
+invariant_of-pass-2 g c =
+    let K = g.C.Client.terms in
+    let o = g.C.Object.Object.opens in
+    let s = g.C.Object.Object.step in
+    let p = plan_of c.args.self.now in
+    let m = me_of c.args.pass.now.pass.seat in
+    let phase = c.args.pass.now.phase in
+    let fits = c.args.pass.now.fits p (ap (λ x. x.plan) c.requires.opening) in
+    let is = c.in-Pinned.is in
+    let t = c.in-Pinned.token in
+    let n = me_of c.unpin.new.seat in
+    let d = unpin_done K o s p m n phase fits t is c.unpin.ensures.makes in
+    record { fits = done_fits K o s p m n _ _ _ _ d (ap (λ x. x.plan) c.unpin.ensures.seat) }
+
+pub returns-clause-owned : goal.returns-clause-owned
+returns-clause-owned g c =
+    let K = g.C.Client.terms in
+    let o = g.C.Object.Object.opens in
+    let s = g.C.Object.Object.step in
+    let p = plan_of c.args.self.now in
+    let m = me_of c.args.pass.now.pass.seat in
+    let phase = c.args.pass.now.phase in
+    let fits = c.args.pass.now.fits p (ap (λ x. x.plan) c.requires.opening) in
+    let is = c.in-Pinned.is in
+    let t = c.in-Pinned.token in
+    let n = me_of c.unpin.new.seat in
+    let d = unpin_done K o s p m n phase fits t is c.unpin.ensures.makes in
+    ap (λ x. x.seat.owned) d.goes.1
+
+pub returns-clause-held : goal.returns-clause-held
+returns-clause-held g c =
+    let K = g.C.Client.terms in
+    let o = g.C.Object.Object.opens in
+    let s = g.C.Object.Object.step in
+    let p = plan_of c.args.self.now in
+    let m = me_of c.args.pass.now.pass.seat in
+    let phase = c.args.pass.now.phase in
+    let fits = c.args.pass.now.fits p (ap (λ x. x.plan) c.requires.opening) in
+    let is = c.in-Pinned.is in
+    let t = c.in-Pinned.token in
+    let n = me_of c.unpin.new.seat in
+    let d = unpin_done K o s p m n phase fits t is c.unpin.ensures.makes in
+    ap (λ x. x.seat.held) d.goes.1
+
+pub returns-clause-knows : goal.returns-clause-knows
+returns-clause-knows g c =
+    let K = g.C.Client.terms in
+    let o = g.C.Object.Object.opens in
+    let s = g.C.Object.Object.step in
+    let p = plan_of c.args.self.now in
+    let m = me_of c.args.pass.now.pass.seat in
+    let phase = c.args.pass.now.phase in
+    let fits = c.args.pass.now.fits p (ap (λ x. x.plan) c.requires.opening) in
+    let is = c.in-Pinned.is in
+    let t = c.in-Pinned.token in
+    let n = me_of c.unpin.new.seat in
+    let d = unpin_done K o s p m n phase fits t is c.unpin.ensures.makes in
+    ap (λ x. x.client) d.goes.1
+
+pub returns-clause-grows : goal.returns-clause-grows
+returns-clause-grows g c =
+    let K = g.C.Client.terms in
+    let o = g.C.Object.Object.opens in
+    let s = g.C.Object.Object.step in
+    let p = plan_of c.args.self.now in
+    let m = me_of c.args.pass.now.pass.seat in
+    let phase = c.args.pass.now.phase in
+    let fits = c.args.pass.now.fits p (ap (λ x. x.plan) c.requires.opening) in
+    let is = c.in-Pinned.is in
+    let t = c.in-Pinned.token in
+    let n = me_of c.unpin.new.seat in
+    let d = unpin_done K o s p m n phase fits t is c.unpin.ensures.makes in
+    done_begins K o s p m n _ _ _ _ d
+
+pub returns-clause-looked : goal.returns-clause-looked
+returns-clause-looked g c =
+    let K = g.C.Client.terms in
+    let o = g.C.Object.Object.opens in
+    let s = g.C.Object.Object.step in
+    let p = plan_of c.args.self.now in
+    let m = me_of c.args.pass.now.pass.seat in
+    let phase = c.args.pass.now.phase in
+    let fits = c.args.pass.now.fits p (ap (λ x. x.plan) c.requires.opening) in
+    let is = c.in-Pinned.is in
+    let t = c.in-Pinned.token in
+    let n = me_of c.unpin.new.seat in
+    let d = unpin_done K o s p m n phase fits t is c.unpin.ensures.makes in
+    done_looked K o s p m n _ _ _ _ d refl
+
+pub returns-clause-history : goal.returns-clause-history
+returns-clause-history g c =
+    let K = g.C.Client.terms in
+    let o = g.C.Object.Object.opens in
+    let s = g.C.Object.Object.step in
+    let p = plan_of c.args.self.now in
+    let m = me_of c.args.pass.now.pass.seat in
+    let phase = c.args.pass.now.phase in
+    let fits = c.args.pass.now.fits p (ap (λ x. x.plan) c.requires.opening) in
+    let is = c.in-Pinned.is in
+    let t = c.in-Pinned.token in
+    let n = me_of c.unpin.new.seat in
+    let d = unpin_done K o s p m n phase fits t is c.unpin.ensures.makes in
+    λ token so. subst (λ u. ListsItems K o s p (Changed K o s p m n []) (event m.0.number (Unpinned u))) (same_pinned phase t token is so) (done_listed K o s p m n _ _ _ _ d)

@@ -1,0 +1,22 @@
+//! What a manager refuses.
+
+use pgas_base::ShapeFault;
+use thiserror::Error;
+
+/// Why a manager was not opened.
+#[derive(Debug, Drop, Clone, Copy, PartialEq, Eq, Error)]
+pub enum OpenFault {
+    #[error("the shape breaks a limit: {fault}")]
+    BadShape { fault: ShapeFault },
+    #[error("the first epoch is not 1 to 2^62, or the first count of the stacks is 2^40 or more")]
+    BadStart,
+    #[error("the number of callers is not 1 to 1024")]
+    Callers,
+    #[error("out of memory")]
+    OutOfMemory,
+}
+
+/// Each token of the locale was another caller's when this call tried it.
+#[derive(Debug, Drop, Clone, Copy, PartialEq, Eq, Error)]
+#[error("each token of the locale is registered")]
+pub struct TokensFull {}

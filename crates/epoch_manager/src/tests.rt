@@ -1,0 +1,153 @@
+ghost use Rattle.std.specs.Prelude.{◌≡◌, length, All, IfSome};
+ghost use Rattle.epoch_manager.specs.Opened.{AreOfOpening, IsIdlePass};
+ghost use Rattle.epoch_manager.specs.Cells.{cells_terms};
+ghost use Rattle.epoch_manager.specs.Managers.{opening_of, callers_of, pass_opening, phase_of, shape_of};
+
+use super::*;
+use epoch_table::Client;
+use pgas_base::{Shape, ShapeFault, Start};
+
+fn shape(tokens: u32) -> Shape
+    ensures { result ≡ record { locales = 2; tokens = tokens; objects = 3; width = 2 } }
+{
+    Shape {
+        locales: 2,
+        tokens,
+        objects: 3,
+        width: 2,
+    }
+}
+
+#[test]
+fn a_row_of_cells_has_a_word_for_each(rt: HostRuntime) {
+    fn words_of<C: Client>(client: &C) -> u32 {
+        client.words()
+    }
+    assert_eq!(rt; words_of(&Cells::new(5)), 5);
+}
+
+#[test]
+fn the_first_limit_that_is_broken_is_told(rt: HostRuntime) {
+    let start = Start::usual();
+    let late = Start {
+        epoch: 4_611_686_018_427_387_905,
+        ..start
+    };
+    let full = Start {
+        stack: 1 << 40,
+        ..start
+    };
+    let bad = OpenFault::BadShape {
+        fault: ShapeFault::Tokens,
+    };
+    let rows = [
+        (shape(0), late, 0, bad),
+        (shape(1), late, 0, OpenFault::BadStart),
+        (shape(1), full, 1, OpenFault::BadStart),
+        (shape(1), start, 0, OpenFault::Callers),
+        (shape(1), start, 1025, OpenFault::Callers),
+    ];
+    for (shape, start, callers, fault) in rows {
+        let opened = Manager::open(rt.alloc(), shape, start, callers, Cells::new(1));
+        assert_eq!(rt; opened.err(), Some(fault), "{shape:?} {start:?} {callers}");
+    }
+}
+
+// The calls of two callers on one token, and the replies.
+fn share_a_token(
+    manager: &Manager<Cells>,
+    first: &mut Pass<Cells>,
+    second: &mut Pass<Cells>,
+) -> [bool; 4]
+    requires first { pass_opening first.old ≡ opening_of manager.now }
+    requires second { pass_opening second.old ≡ opening_of manager.now }
+    requires idle { phase_of first.old ≡ Phase.Idle }
+    requires other { phase_of second.old ≡ Phase.Idle }
+    requires locales { (shape_of manager.now).locales ≡ 2 }
+{
+    let one = manager.register(first, 0).is_ok();
+    let full = manager.register(second, 0).is_err();
+    if let Phase::Registered { .. } = first.phase() {
+        manager.pin(first);
+        manager.unpin(first);
+        manager.unregister(first);
+    }
+    let note = manager.note(first);
+    manager.learn(second, note);
+    if let Phase::Idle = second.phase() {
+        let two = manager.register(second, 0).is_ok();
+        return [one, full, two, first.phase() == Phase::Idle];
+    }
+    [one, full, false, false]
+}
+
+// The last of the passes.
+fn take_pass(manager: &Manager<Cells>, passes: &mut Vec<Pass<Cells>>) -> Option<Pass<Cells>>
+    requires opening { AreOfOpening cells_terms manager.now passes.old.items }
+    requires idle { All IsIdlePass passes.old.items }
+    ensures opening { AreOfOpening cells_terms manager.now passes.new.items }
+    ensures idle { All IsIdlePass passes.new.items }
+    ensures its_opening { IfSome result (λ p. pass_opening p ≡ opening_of manager.now) }
+    ensures its_phase { IfSome result (λ p. phase_of p ≡ Phase.Idle) }
+{
+    passes.pop()
+}
+
+#[test]
+fn a_token_is_one_callers_at_a_time(rt: HostRuntime) {
+    let (manager, mut passes) = Manager::open(
+        rt.alloc(),
+        shape(1),
+        Start::usual(),
+        2,
+        Cells::new(1),
+    ).expect(&rt, "memory");
+    let Some(mut second) = take_pass(&manager, &mut passes) else {
+        return;
+    };
+    let Some(mut first) = take_pass(&manager, &mut passes) else {
+        return;
+    };
+    assert_eq!(rt; (first.caller(), second.caller()), (0, 1));
+    let replies = share_a_token(&manager, &mut first, &mut second);
+    assert_eq!(rt; replies, [true; 4]);
+}
+
+// Closes the manager, once more where there was no memory.
+fn close_again(
+    manager: Manager<Cells>,
+    passes: Vec<Pass<Cells>>,
+) -> Result<Closed<Cells>, ManagerBack<Cells>>
+    requires opening { AreOfOpening cells_terms manager passes.items }
+    requires count { length passes.items ≡ callers_of manager }
+{
+    match manager.close(passes) {
+        Ok(closed) => Ok(closed),
+        Err(ManagerBack { manager, passes }) => manager.close(passes),
+    }
+}
+
+fn are_zeros(words: Vec<u64>, many: usize) -> bool {
+    let mut zeros = words.len() == many;
+    for word in words {
+        zeros &= word == 0;
+    }
+    zeros
+}
+
+// Each object's header and next word stand in the table beside its row, and are no 0.
+#[test]
+fn a_closed_manager_gives_its_words_and_rows(rt: HostRuntime) {
+    let (manager, passes) = Manager::open(
+        rt.alloc(),
+        shape(1),
+        Start::usual(),
+        2,
+        Cells::new(5),
+    ).expect(&rt, "memory");
+    let zeros = match close_again(manager, passes) {
+        Ok(closed) => are_zeros(closed.words, 5) && are_zeros(closed.rows, 12),
+        Err(_) => false,
+    };
+    assert!(rt; zeros);
+}
