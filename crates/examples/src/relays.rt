@@ -2,28 +2,12 @@
 ghost use Rattle.std.specs.Prelude.{◌≡◌, ◌%◌, IfOk, IfSome, All};
 ghost use Rattle.shared_deque.specs.Passes.{IsSamePass, pass_opening};
 ghost use Rattle.shared_deque.specs.Deques.{callers_of, opening_of};
-ghost use Rattle.shared_deque.specs.Opened.{AreOfOpening};
 
 use crate::keepers::Even;
 use shared_deque::{Deque, DequeFault, DequePass};
 use std::alloc::Global;
 use std::sync::Wait;
 use std::thread::{Threads, join_mut};
-
-/// The last of the passes.
-fn take_pass(
-    deque: &Deque<Even>,
-    passes: &mut Vec<DequePass<Even>>,
-) -> Result<DequePass<Even>, DequeFault>
-    requires { AreOfOpening deque.now passes.old.items }
-    ensures rest { AreOfOpening deque.now passes.new.items }
-    ensures pass { IfOk result (λ pass. pass_opening pass ≡ opening_of deque.now) }
-{
-    match passes.pop() {
-        Some(pass) => Ok(pass),
-        None => Err(DequeFault::Callers),
-    }
-}
 
 /// Pushes an item with each pass, each in a thread.
 fn push_both<R: Threads + Wait + Sync>(
@@ -82,9 +66,9 @@ pub fn relay<R: Threads + Wait + Sync>(
     ensures left { IfOk result (λ r. All (λ item. item % 2 ≡ 0) r.1.items) }
 {
     let (deque, mut passes) = Deque::open(alloc, 1, 16, 3, Even)?;
-    let mut first = take_pass(&deque, &mut passes)?;
-    let mut second = take_pass(&deque, &mut passes)?;
-    let mut third = take_pass(&deque, &mut passes)?;
+    let mut third = deque.take_pass(&mut passes);
+    let mut second = deque.take_pass(&mut passes);
+    let mut first = deque.take_pass(&mut passes);
     let mut taken = None;
     join_mut(
         rt,
