@@ -1,5 +1,5 @@
 -- A step does to its seat, and lists, what the seat and the one word that it finds say. No other seat is changed.
-use Rattle.std.proofs.Common.{◌≡◌, ◌≢◌, ◌==◌, ◌<◌, ◌++◌, ℕ, true, refl, ap, sym, ◌∙◌, subst, inl, inr, ⊎_elim, arith}
+use Rattle.std.proofs.Common.{◌≡◌, ◌==◌, ◌<◌, ◌++◌, ℕ, true, refl, ap, sym, ◌∙◌, subst, inl, inr, ⊎_elim, arith}
 use Rattle.std.specs.Prelude.{unwrap_or}
 use Rattle.std.proofs.lemmas.Bool.{cases_Bool}
 use Rattle.std.proofs.lemmas.Nat.{div-mul-add, mod-mul-add}
@@ -25,7 +25,6 @@ use Rattle.epoch_laws.specs.StackSteps.{stack_look, stack_next, stack_pop, stack
 use Rattle.epoch_laws.specs.HomeSteps.{home_swap, home_link, home_take, home_walk}
 use Rattle.epoch_laws.specs.Steps.{move}
 use Rattle.epoch_laws.proofs.Lists.{among-append}
-use Rattle.epoch_laws.proofs.Updates.{number_there}
 use Rattle.epoch_table.specs.Deeds.{deed}
 use Rattle.epoch_table.specs.Facts.{Facts, Keeps, AreFacts}
 use Rattle.epoch_table.specs.Knowledge.{known_words, told, tells, Finds, IsOwnRow, AreAllKnown, IsKnown, Row}
@@ -65,43 +64,6 @@ header_found h found e = sym (header_read h) ∙ ap header_in e
 
 pub head_found : (h : FreeWord) (found : ℕ) → h.index < 16777216 → free_head_word h.count h.index ≡ found → h ≡ head_in found
 head_found h found low e = sym (head_read h low) ∙ ap head_in e
-
--- no other seat is changed
-pub others_kept : (s : State) (c : ℕ) (k : Kind) (d : ℕ) → d ≢ c → (move s c k).outcome.next.seat d ≡ s.seat d
-unfolding move register unregister pin_look pin_set unpin take_look take_try show give_back hold touch defer_look defer_swap defer_link elect_local elect_global epoch_look scan_token advance spread collect walk release leave stack_look stack_next stack_pop stack_put hand_link home_swap home_link home_take home_walk
-others_kept s c (Register l n) d ne = ⊎_elim (λ e. rw e (number_there _ _ _ _ ne)) (λ e. rw e refl) (cases_Bool (s.words.token_word (record { locale = l; number = n }) == 0))
-others_kept s c Unregister d ne = number_there _ _ _ _ ne
-others_kept s c PinLook d ne = number_there _ _ _ _ ne
-others_kept s c PinSet d ne = number_there _ _ _ _ ne
-others_kept s c Unpin d ne = number_there _ _ _ _ ne
-others_kept s c (TakeLook l i) d ne = number_there _ _ _ _ ne
-others_kept s c (TakeTry l i) d ne = ⊎_elim (λ e. rw e (number_there _ _ _ _ ne)) (λ e. rw e refl) (cases_Bool (is_free_with (s.words.header (record { locale = l; index = i })) (look_count (s.seat c).free_look)))
-others_kept s c (Show q) d ne = number_there _ _ _ _ ne
-others_kept s c (Hold q) d ne = number_there _ _ _ _ ne
-others_kept s c (Touch q) d ne = refl
-others_kept s c (Return q) d ne = number_there _ _ _ _ ne
-others_kept s c (DeferLook q) d ne = number_there _ _ _ _ ne
-others_kept s c DeferSwap d ne = number_there _ _ _ _ ne
-others_kept s c DeferLink d ne = number_there _ _ _ _ ne
-others_kept s c ElectLocal d ne = ⊎_elim (λ e. rw e (number_there _ _ _ _ ne)) (λ e. rw e refl) (cases_Bool (s.words.election_of (s.seat c).token.locale == 0))
-others_kept s c ElectGlobal d ne = ⊎_elim (λ e. rw e (number_there _ _ _ _ ne)) (λ e. rw e (number_there _ _ _ _ ne)) (cases_Bool (s.words.election == 0))
-others_kept s c EpochLook d ne = number_there _ _ _ _ ne
-others_kept s c ScanToken d ne = number_there _ _ _ _ ne
-others_kept s c Advance d ne = number_there _ _ _ _ ne
-others_kept s c Spread d ne = number_there _ _ _ _ ne
-others_kept s c Collect d ne = number_there _ _ _ _ ne
-others_kept s c Walk d ne = number_there _ _ _ _ ne
-others_kept s c (Release q) d ne = ⊎_elim (λ e. rw e (number_there _ _ _ _ ne)) (λ e. rw e (number_there _ _ _ _ ne)) (cases_Bool (q.count == last_count))
-others_kept s c Leave d ne = ⊎_elim (λ e. rw e (number_there _ _ _ _ ne)) (λ e. rw e (number_there _ _ _ _ ne)) (cases_Bool (has_global (s.seat c).phase))
-others_kept s c (StackLook l) d ne = number_there _ _ _ _ ne
-others_kept s c StackNext d ne = number_there _ _ _ _ ne
-others_kept s c StackPop d ne = ⊎_elim (λ e. rw e (number_there _ _ _ _ ne)) (λ e. rw e (number_there _ _ _ _ ne)) (cases_Bool (same_head (s.words.free_head (s.seat c).stack.locale) (s.seat c).stack.head))
-others_kept s c (StackPut top tail) d ne = ⊎_elim (λ e. rw e (number_there _ _ _ _ ne)) (λ e. rw e (number_there _ _ _ _ ne)) (cases_Bool (same_head (s.words.free_head (s.seat c).stack.locale) (s.seat c).stack.head))
-others_kept s c (HandLink q word) d ne = refl
-others_kept s c (HomeSwap top tail) d ne = number_there _ _ _ _ ne
-others_kept s c HomeLink d ne = number_there _ _ _ _ ne
-others_kept s c (HomeTake l) d ne = number_there _ _ _ _ ne
-others_kept s c HomeWalk d ne = ⊎_elim (λ e. rw e refl) (λ e. rw e (number_there _ _ _ _ ne)) (cases_Bool (s.words.next (place_in ((s.seat c).homing.chain)) == pending))
 
 -- the number of seats stays
 pub seats_kept : (s : State) (c : ℕ) (k : Kind) → (move s c k).outcome.next.seats ≡ s.seats

@@ -31,7 +31,7 @@ use Rattle.epoch_laws.specs.Items.{happenings, epoch_of, IsExactRelease}
 use Rattle.epoch_laws.specs.Accounts.{account, account_of}
 use Rattle.pool_core.specs.Headers.{header_word}
 use Rattle.epoch_laws.specs.Laws.{IsReached}
-use Rattle.epoch_laws.proofs.Frames.{leaves_others}
+use Rattle.epoch_laws.proofs.Frames.{leaves_others, others_kept}
 use Rattle.epoch_laws.proofs.Onward.{allowed_then, after_then, items_then as run_items_then}
 use Rattle.epoch_laws.proofs.SoundRuns.{shape_after}
 use Rattle.epoch_laws.proofs.Theorem.{events_are_legal, release_is_exact, states_are_sound}
@@ -53,7 +53,7 @@ use Rattle.epoch_table.specs.Rule.{AreShown, AreSmall, AreLow, Shows, row_word, 
 use Rattle.epoch_table.specs.Kinds.{looks_of, IsOn, entries_of_items, client_after, IsQuiet, IsMade, Succeeds, Allows, part_after, MayMake, Learns}
 use Rattle.epoch_table.proofs.Deeds.{does}
 use Rattle.epoch_table.proofs.Epochs.{local_or_less}
-use Rattle.epoch_table.proofs.Knowledge.{head_found, others_kept, row_met, told_so}
+use Rattle.epoch_table.proofs.Knowledge.{head_found, row_met, told_so}
 use Rattle.epoch_table.proofs.Heads.{winners_one, winners_but, givens_then, pays, wins_once}
 use Rattle.epoch_table.proofs.Facts.{own_facts, other_facts}
 use Rattle.epoch_table.proofs.Learning.{learns, within_row}
