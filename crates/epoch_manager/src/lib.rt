@@ -11,6 +11,7 @@ mod closing;
 mod faults;
 mod managers;
 mod notes;
+mod objects;
 mod opening;
 mod passes;
 mod phases;
