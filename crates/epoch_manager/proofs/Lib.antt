@@ -4,5 +4,6 @@ pub mod Known
 pub mod TokenSteps
 pub mod PassClauses
 pub mod ObjectSteps
+pub mod SpotClauses
 pub mod Openings
 pub mod Closings

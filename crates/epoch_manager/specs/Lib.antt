@@ -8,3 +8,4 @@ pub mod Managers
 pub mod Tokens
 pub mod Opened
 pub mod Closed
+pub mod SpotCalls

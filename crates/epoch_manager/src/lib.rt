@@ -16,6 +16,8 @@ mod opening;
 mod passes;
 mod phases;
 mod plain_cells;
+mod reads;
+mod spots;
 mod tokens;
 
 pub use cells::{Cells, CellsView};
