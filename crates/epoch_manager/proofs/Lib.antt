@@ -5,5 +5,6 @@ pub mod TokenSteps
 pub mod PassClauses
 pub mod ObjectSteps
 pub mod SpotClauses
+pub mod HoldClauses
 pub mod Openings
 pub mod Closings

@@ -9,3 +9,5 @@ pub mod Tokens
 pub mod Opened
 pub mod Closed
 pub mod SpotCalls
+pub mod HeldNumbers
+pub mod HoldCalls

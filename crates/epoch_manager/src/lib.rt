@@ -9,6 +9,7 @@
 mod cells;
 mod closing;
 mod faults;
+mod holds;
 mod managers;
 mod notes;
 mod objects;
@@ -23,7 +24,7 @@ mod tokens;
 pub use cells::{Cells, CellsView};
 pub use closing::{Closed, ManagerBack};
 pub use faults::{OpenFault, TokensFull};
-pub use managers::{ClientPass, Manager, Note, Pass};
+pub use managers::{ClientPass, MOST_HELD, Manager, Note, Pass};
 pub use phases::Phase;
 pub use plain_cells::{CellCall, PlainCells};
 
