@@ -6,5 +6,7 @@ pub mod CellLaws
 pub mod Fits
 pub mod Managers
 pub mod Tokens
+pub mod Deferring
+pub mod Returning
 pub mod Opened
 pub mod Closed

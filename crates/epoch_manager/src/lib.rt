@@ -1,13 +1,14 @@
 //! A manager of rows of memory that are reclaimed by epochs: what callers of it do in whole calls, each made of steps
 //! of `epoch_table`.
 //!
-//! There are the opening with its refusals, the calls on tokens (register, unregister, pin, unpin), notes and the
-//! close, for any client; and `Cells`, a client whose links are a row of cells. The calls by which objects are taken,
-//! shown, held, deferred and reclaimed are not there yet.
+//! There are the opening with its refusals, the calls on tokens (register, unregister, pin, unpin), the deferral of an
+//! object that was cut out, notes and the close, for any client; and `Cells`, a client whose links are a row of cells.
+//! The calls by which objects are taken, shown, held and reclaimed are not there yet.
 #![tactic(auto)]
 
 mod cells;
 mod closing;
+mod deferrals;
 mod faults;
 mod managers;
 mod notes;
@@ -15,6 +16,7 @@ mod opening;
 mod passes;
 mod phases;
 mod plain_cells;
+mod returns;
 mod tokens;
 
 pub use cells::{Cells, CellsView};
