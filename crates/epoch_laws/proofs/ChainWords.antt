@@ -7,6 +7,8 @@ use Rattle.epoch_laws.specs.ChainWords.{IsChainWord}
 use Rattle.epoch_laws.specs.Places.{Place, place_in, pending, is_among}
 use Rattle.epoch_laws.specs.Seats.{Advanced}
 use Rattle.epoch_laws.specs.States.{State, IsPlace}
+use Rattle.epoch_laws.specs.Needs.{AllMet}
+use Rattle.epoch_laws.specs.StackSteps.{stack_pop, looked_top, same_head}
 use Rattle.epoch_laws.specs.Locations.{Location, InStack, InHome, InTaken, InRest, at_}
 use Rattle.epoch_laws.specs.Links.{IsLink}
 use Rattle.epoch_laws.specs.Paths.{IsPath, led_to, top_at, first_of, list_at}
@@ -15,6 +17,7 @@ use Rattle.epoch_laws.proofs.Lists.{among_here, among_more}
 use Rattle.epoch_laws.proofs.Paths.{led_to_some, top_at_some, path_first}
 use Rattle.epoch_laws.proofs.KeepsReclaims.{walk_path}
 use Rattle.epoch_laws.proofs.KeepsHomes.{taken_path}
+use Rattle.epoch_laws.proofs.KeepsStacks.{pop_path}
 
 -- the first object of a path is among those that it leads over
 path_begins : (link : Place → Option Place) (p : Place) (xs : List Place) → IsPath link (Some p) xs → is_among p xs ≡ true
@@ -78,3 +81,14 @@ module _ (s : State) (m : Map) (sound : IsSound s m) where
       (λ h. inr (next_word (at_ InTaken c) p path.0 path.1 path.2 h.1))
       (λ h. inl h.0)
       (subst (λ k. links_at k p) (first_at (at_ InTaken c) p path.0 path.1) (sound.linked.links p))
+
+  -- where the object is that a won pop takes, that which is walked over in a taken home chain, and that which is in a collected one
+  pub popped_at : (c : ℕ) → AllMet ((stack_pop s c).needs) → same_head (s.words.free_head (s.seat c).stack.locale) (s.seat c).stack.head ≡ true
+      → m.loc (looked_top (s.seat c).stack) ≡ at_ InStack (s.seat c).stack.locale
+  popped_at c h won = let path = pop_path s m sound c h won in first_at (at_ InStack (s.seat c).stack.locale) (looked_top (s.seat c).stack) path.0 path.1
+
+  pub taken_at : (is_shape : IsShape s.shape) (c : ℕ) → (s.seat c).homing.chain ≢ 0 → m.loc (place_in (s.seat c).homing.chain) ≡ at_ InTaken c
+  taken_at is_shape c some = let path = taken_path s m sound is_shape c some in first_at (at_ InTaken c) (place_in (s.seat c).homing.chain) path.0 path.1
+
+  pub walked_from : (c : ℕ) → (s.seat c).phase ≡ Advanced → (s.seat c).reclaim.chain ≢ 0 → m.loc (place_in (s.seat c).reclaim.chain) ≡ at_ InRest c
+  walked_from c at some = let path = walk_path s m sound c at some in first_at (at_ InRest c) (place_in (s.seat c).reclaim.chain) path.0 path.1

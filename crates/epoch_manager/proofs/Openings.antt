@@ -21,7 +21,7 @@ use Rattle.epoch_table.specs.Clients.{ClientTerms}
 use Rattle.epoch_table.specs.Rule.{manager_terms}
 use Rattle.epoch_manager.specs.declared.managers.ClientPass.{ClientPass}
 use Rattle.epoch_manager.specs.declared.managers.Manager.{Manager}
-use Rattle.epoch_manager.specs.Managers.{pass_opening, opening_of}
+use Rattle.epoch_manager.specs.Managers.{pass_opening, opening_of, pointers}
 use Rattle.epoch_manager.specs.Opened.{IsNew, IsIdlePass, IsNewPass, IsOpenedWith}
 
 -- what a list is whose elements were all written anew
@@ -78,8 +78,8 @@ module _ {C O View' Call Reply State' : Type 0} (K : ClientTerms C View' Call Re
         empty = new.empty;
         unread = new.unread;
         idle = all_at IsIdlePass wrapped k p idle at;
-        owns = ap (λ x. x.seat.owned) new.part;
-        holds = ap (λ x. x.seat.held) new.part;
+        owns = ap (λ x. pointers x.facts x.seat.owned) new.part;
+        holds = ap (λ x. pointers x.facts x.seat.held) new.part;
         told = ap (λ x. x.client) new.part;
       }
 

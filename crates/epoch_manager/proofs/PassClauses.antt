@@ -1,5 +1,5 @@
 -- What a call's clauses say of its pass, from what it did to its caller's seat.
-use Rattle.std.proofs.Common.{◌≡◌, ◌<◌, ◌&&◌, ◌⊎◌, ℕ, Bool, true, false, ltb, List, [], ◌∷◌, ◌++◌, refl, ap, sym, ◌∙◌, subst, ⊎_elim, arith, Option, Some, None}
+use Rattle.std.proofs.Common.{◌≡◌, ◌<◌, ◌⊎◌, ℕ, true, ltb, List, [], ◌∷◌, ◌++◌, refl, ap, sym, ◌∙◌, subst, ⊎_elim, arith, Option, Some, None}
 use Rattle.std.proofs.lemmas.Bool.{false≢true}
 use Rattle.std.proofs.lemmas.List.{append-nil}
 use Rattle.std.specs.Option.{ForSome}
@@ -33,8 +33,9 @@ use Rattle.epoch_table.specs.Rule.{manager_terms, is_between}
 use Rattle.epoch_manager.specs.declared.phases.Phase.{Phase}
 use Rattle.epoch_manager.specs.declared.phases.Phase.TheVariants.{Idle, Registered, Pinned}
 use Rattle.epoch_manager.specs.Deferring.{deferral_words, part_deferred, DefersSeat}
-use Rattle.epoch_manager.specs.Fits.{is_idle, is_registered, is_pinned, stands_as, is_token, is_inside, PassFits}
+use Rattle.epoch_manager.specs.Fits.{is_idle, is_registered, is_pinned, stands_as, is_token, is_inside, may_hold, IsKept, PassFits}
 use Rattle.epoch_manager.specs.Managers.{ListsItems, ReadsWords}
+use Rattle.epoch_manager.proofs.Known.{both, and_so, below_so, ltb_so}
 use Rattle.epoch_manager.specs.Tokens.{TakesToken, registered_items, PinsSeat}
 use Rattle.epoch_manager.proofs.Rows.{unregister_row, unpin_row}
 use Rattle.epoch_manager.proofs.Told.{unregister_told, unpin_told}
@@ -53,14 +54,6 @@ registered_so p is = absurd (false≢true is)
 pinned_so : (p : SeatPhase) → is_pinned p ≡ true → p ≡ IsPinned
 pinned_so IsPinned is = refl
 pinned_so p is = absurd (false≢true is)
-
-both : (a b : Bool) → (a && b) ≡ true → (a ≡ true) × (b ≡ true)
-both true true is = (refl, refl)
-both true false is = absurd (false≢true is)
-both false b is = absurd (false≢true is)
-
-and_so : (a b : Bool) → a ≡ true → b ≡ true → (a && b) ≡ true
-and_so a b x y = rw (x, y) refl
 
 token_so : (t u : Token) → same_token t u ≡ true → t ≡ u
 token_so t u is = ⊎_elim (λ h. h.1) (λ h. absurd (false≢true (sym h.0 ∙ is))) (same_token_tells t u)
@@ -90,12 +83,6 @@ now_registered seat t is same = and_so (is_registered seat.phase) (same_token se
 pub now_pinned : (seat : Seat) (t : Token) → seat.phase ≡ IsPinned → seat.token ≡ t → stands_as seat (Pinned t) ≡ true
 now_pinned seat t is same = and_so (is_pinned seat.phase) (same_token seat.token t) (ap is_pinned is) (subst (λ u. same_token seat.token u ≡ true) same (same_so seat.token))
 
-below_so : (a b : ℕ) → ltb a b ≡ true → a < b
-below_so a b is = grind arith
-
-ltb_so : (a b : ℕ) → a < b → ltb a b ≡ true
-ltb_so a b h = grind arith
-
 pub token_inside : (shape : Shape) (t : Token) → is_token shape t ≡ true → IsToken shape.locales shape.tokens t
 token_inside shape t is =
     let two = both (ltb t.locale shape.locales) (ltb t.number shape.tokens) is in
@@ -119,7 +106,7 @@ pub kept_fits : {C View' Call Reply : Type 0} (v w : View (Happens Call Reply) (
 kept_fits v w phase fits plan number part x is =
     let f = fits x (sym plan ∙ is) in
     let low = f.below in
-    record { below = omega arith; stands = ap (λ p. stands_as p.seat phase) part ∙ f.stands; inside = f.inside }
+    record { below = omega arith; stands = ap (λ p. stands_as p.seat phase) part ∙ f.stands; inside = f.inside; kept = subst (λ p. IsKept x.shape p phase) (sym part) f.kept }
 
 module _ {C View' Call Reply State' : Type 0} (K : ClientTerms C View' Call Reply State') (opens : State' → Type 0) (step : State' → Call → Reply → State' → Type 0) (plan : Plan C) where
   -- a pass of the manager's opening fits its plan
@@ -128,11 +115,11 @@ module _ {C View' Call Reply State' : Type 0} (K : ClientTerms C View' Call Repl
 
   module _ (m n : Seated K opens step plan) (words : List (Look WordName)) where
     pub fits_after : (entries : List (Entry (Happens Call Reply) (Unit {0}))) (part : Part View') (old new : Phase) → PassFits plan m.0 old → Among K opens step plan m n words entries part → stands_as part.seat new ≡ true → is_inside plan.shape new ≡ true
-        → PassFits plan n.0 new
-    fits_after entries part old new fits goes stands inside =
+        → IsKept plan.shape part new → PassFits plan n.0 new
+    fits_after entries part old new fits goes stands inside kept =
         let number = goes.0.same.number in
         let low = fits.below in
-        record { below = omega arith; stands = ap (λ (p : Part View'). stands_as p.seat new) goes.1 ∙ stands; inside = inside }
+        record { below = omega arith; stands = ap (λ (p : Part View'). stands_as p.seat new) goes.1 ∙ stands; inside = inside; kept = subst (λ (p : Part View'). IsKept plan.shape p new) (sym goes.1) kept }
 
     abbrev pub Changed : Change (Happens Call Reply) (Unit {0}) WordName
     Changed = record { caller = m.0.number; old = page_of m.0; new = page_of n.0; looked_old = m.0.looked; looked_new = n.0.looked }
@@ -157,16 +144,16 @@ module _ {C View' Call Reply State' : Type 0} (K : ClientTerms C View' Call Repl
 
   module _ (m n : Seated K opens step plan) (words : List (Look WordName)) (items : List Item) (part : Part View') where
     pub done_among : (old new : Phase) → PassFits plan m.0 old → Among K opens step plan m n words (entries_of_items m.0.number items) part → is_between part.seat.phase ≡ true → stands_as part.seat new ≡ true → is_inside plan.shape new ≡ true
-        → Done m n words items part new
-    done_among old new fits goes between stands inside = record {
+        → IsKept plan.shape part new → Done m n words items part new
+    done_among old new fits goes between stands inside kept = record {
       goes = goes;
       rests = goes.3 ∙ between;
       carried = goes.2;
-      fits = fits_after m n words (entries_of_items m.0.number items) part old new fits goes stands inside;
+      fits = fits_after m n words (entries_of_items m.0.number items) part old new fits goes stands inside kept;
     }
 
     pub done : (old new : Phase) → PassFits plan m.0 old → Goes K opens step plan m n words (entries_of_items m.0.number items) part → is_between part.seat.phase ≡ true → stands_as part.seat new ≡ true → is_inside plan.shape new ≡ true
-        → Done m n words items part new
+        → IsKept plan.shape part new → Done m n words items part new
     done old new fits goes = done_among old new fits (as_among K opens step plan m n words (entries_of_items m.0.number items) part goes)
 
   -- what its clauses say
@@ -187,16 +174,17 @@ module _ {C View' Call Reply State' : Type 0} (K : ClientTerms C View' Call Repl
     done_fits has = fits_plan n.0 new has d.fits
 
   module _ (m n : Seated K opens step plan) (phase : Phase) (fits : PassFits plan m.0 phase) where
-    pub register_done : (locale number : ℕ) (takes : TakesToken K opens step plan locale m n (Some number)) → locale < plan.shape.locales
+    pub register_done : (locale number : ℕ) → phase ≡ Idle → (takes : TakesToken K opens step plan locale m n (Some number)) → locale < plan.shape.locales
         → Done m n takes.0 (registered_items m.0.number (Registered (record { locale = locale; number = number }))) (record m.0.part { seat = record m.0.part.seat { phase = IsRegistered; token = record { locale = locale; number = number } } })
         (Registered (record { locale = locale; number = number }))
-    register_done locale number takes low =
+    register_done locale number idle takes low =
         let t : Token = record { locale = locale; number = number } in
         done m n takes.0 (registered_items m.0.number (Registered t)) (record m.0.part { seat = record m.0.part.seat { phase = IsRegistered; token = t } }) phase (Registered t) fits takes.3 refl
         (now_registered (record m.0.part.seat { phase = IsRegistered; token = t }) t refl refl) (inside_token plan.shape t low takes.2)
+        (record { done = fits.kept.done; owned = fits.kept.owned; held = fits.kept.held; pinned = subst (λ (p : Phase). may_hold p m.0.part.seat.held ≡ true) idle fits.kept.pinned })
 
     pub refused_done : (locale : ℕ) (takes : TakesToken K opens step plan locale m n None) → m.0.part.seat.phase ≡ IsIdle → Done m n takes.0 [] m.0.part phase
-    refused_done locale takes idle = done m n takes.0 [] m.0.part phase phase fits takes.2 (ap is_between idle) fits.stands fits.inside
+    refused_done locale takes idle = done m n takes.0 [] m.0.part phase phase fits takes.2 (ap is_between idle) fits.stands fits.inside fits.kept
 
     pub unregister_done : (t : Token) → phase ≡ Registered t → Makes K opens step plan Unregister m 0 n → Done m n [] (event m.0.number (Unregistered t)) (record m.0.part { seat = record m.0.part.seat { phase = IsIdle } }) Idle
     unregister_done t is makes =
@@ -205,6 +193,7 @@ module _ {C View' Call Reply State' : Type 0} (K : ClientTerms C View' Call Repl
         let goes = made_of K opens step plan Unregister m n 0 _ (unregister_told plan.shape plan.callers m.0.number m.0.part.seat m.0.part.facts 0) makes in
         let goes' : Goes K opens step plan m n [] (entries_of_items m.0.number (event m.0.number (Unregistered t))) part = subst (λ (u : Token). Goes K opens step plan m n [] (entries_of_items m.0.number (event m.0.number (Unregistered u))) part) stands.1 goes in
         done m n [] (event m.0.number (Unregistered t)) part phase Idle fits goes' refl refl refl
+        (record { done = fits.kept.done; owned = fits.kept.owned; held = fits.kept.held; pinned = subst (λ (p : Phase). may_hold p m.0.part.seat.held ≡ true) is fits.kept.pinned })
 
     pub unpin_done : (t : Token) → phase ≡ Pinned t → Makes K opens step plan Unpin m 1 n
         → Done m n [] (event m.0.number (Unpinned t)) (record m.0.part { seat = record m.0.part.seat { phase = IsRegistered; held = [] }; client = K.unpinned m.0.part.client }) (Registered t)
@@ -214,6 +203,7 @@ module _ {C View' Call Reply State' : Type 0} (K : ClientTerms C View' Call Repl
         let goes = made_of K opens step plan Unpin m n 1 _ (unpin_told plan.shape plan.callers m.0.number m.0.part.seat m.0.part.facts 1) makes in
         let goes' : Goes K opens step plan m n [] (entries_of_items m.0.number (event m.0.number (Unpinned t))) part = subst (λ (u : Token). Goes K opens step plan m n [] (entries_of_items m.0.number (event m.0.number (Unpinned u))) part) stands.1 goes in
         done m n [] (event m.0.number (Unpinned t)) part phase (Registered t) fits goes' refl (now_registered part.seat t refl stands.1) (subst (λ (p : Phase). is_inside plan.shape p ≡ true) is fits.inside)
+        (record { done = fits.kept.done; owned = fits.kept.owned; held = refl; pinned = refl })
 
     pub pin_done : (t : Token) (epoch : ℕ) → phase ≡ Registered t → PinsSeat K opens step plan t m epoch n
         → Done m n (record { name = local_epoch t.locale; word = epoch } ∷ []) (Event m.0.number (PinnedEvent t) epoch ∷ []) (record m.0.part { seat = record m.0.part.seat { phase = IsPinned; announced = epoch } }) (Pinned t)
@@ -222,6 +212,7 @@ module _ {C View' Call Reply State' : Type 0} (K : ClientTerms C View' Call Repl
         let part : Part View' = record m.0.part { seat = record m.0.part.seat { phase = IsPinned; announced = epoch } } in
         done m n (record { name = local_epoch t.locale; word = epoch } ∷ []) (Event m.0.number (PinnedEvent t) epoch ∷ []) part phase (Pinned t) fits pins.1 refl (now_pinned part.seat t refl stands.1)
         (subst (λ (p : Phase). is_inside plan.shape p ≡ true) is fits.inside)
+        (record { done = fits.kept.done; owned = fits.kept.owned; held = fits.kept.held; pinned = refl })
 
     pub defer_done : (t : Token) (q : Pointer) (tag : ℕ) → phase ≡ Pinned t → (defers : DefersSeat K opens step plan q m tag n)
         → Done m n (deferral_words t.locale tag defers.1.0) (Event m.0.number (Deferred t q) tag ∷ []) (part_deferred K q tag defers.1.0 m.0.part) phase
@@ -232,6 +223,7 @@ module _ {C View' Call Reply State' : Type 0} (K : ClientTerms C View' Call Repl
         let goes = subst (λ (u : Token). Among K opens step plan m n (deferral_words u.locale tag old) (entries_of_items m.0.number (Event m.0.number (Deferred u q) tag ∷ [])) part) stands.1 defers.1.1 in
         done_among m n (deferral_words t.locale tag old) (Event m.0.number (Deferred t q) tag ∷ []) part phase phase fits goes refl
         (subst (λ (f : Phase). stands_as part.seat f ≡ true) (sym is) (now_pinned part.seat t refl stands.1)) fits.inside
+        (record { done = fits.kept.done; owned = fits.kept.owned; held = fits.kept.held; pinned = fits.kept.pinned })
 
   -- a token of the pass is one of the shape's
   pub inside_so : (phase : Phase) (t : Token) (v : View (Happens Call Reply) (Unit {0}) (Plan C) (Part View') WordName) → PassFits plan v phase → (phase ≡ Registered t) ⊎ (phase ≡ Pinned t) → IsToken plan.shape.locales plan.shape.tokens t

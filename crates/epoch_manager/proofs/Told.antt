@@ -1,12 +1,15 @@
 -- What steps leave their seat and list.
 use Rattle.std.proofs.Common.{◌≡◌, ◌≢◌, ℕ, [], ◌∷◌, refl, ap, eq-eqb, ne_eqb}
 use Rattle.pgas_base.specs.declared.shapes.Shape.{Shape}
-use Rattle.epoch_laws.specs.declared.events.EpochEvent.TheVariants.{Registered as IsRegistered, Unregistered, Pinned as IsPinned, Unpinned}
+use Rattle.pgas_base.specs.Pointers.{Pointer}
+use Rattle.epoch_laws.specs.declared.events.EpochEvent.TheVariants.{Registered as IsRegistered, Unregistered, Pinned as IsPinned, Unpinned, Shown}
 use Rattle.epoch_laws.specs.declared.events.Item.TheVariants.{Event}
-use Rattle.epoch_laws.specs.declared.steps.Kind.TheVariants.{Register, Unregister, PinLook, PinSet, Unpin}
+use Rattle.epoch_laws.specs.declared.steps.Kind.TheVariants.{Register, Unregister, PinLook, PinSet, Unpin, Show}
 use Rattle.epoch_laws.specs.Needs.{event}
+use Rattle.epoch_laws.specs.Places.{place_of, without}
 use Rattle.epoch_laws.specs.Seats.{Seat, Idle, Registered, PinLooked, Pinned}
 use Rattle.epoch_laws.specs.Steps.{move}
+use Rattle.epoch_laws.specs.TakeSteps.{show}
 use Rattle.epoch_laws.specs.TokenSteps.{register, unregister, pin_look, pin_set, unpin}
 use Rattle.epoch_laws.proofs.Updates.{number_here}
 use Rattle.epoch_table.specs.Facts.{Facts}
@@ -38,3 +41,7 @@ module _ (shape : Shape) (seats c : ℕ) (seat : Seat) (facts : Facts) where
   pub unpin_told : (found : ℕ) → tells shape seats c seat facts Unpin found ≡ record { seat = record seat { phase = Registered; held = [] }; items = event c (Unpinned seat.token) }
   unfolding move unpin
   unpin_told found = ap (λ (s : Seat). record { seat = s; items = event c (Unpinned seat.token) }) (number_here (λ d. seat) c (record seat { phase = Registered; held = [] }))
+
+  pub show_told : (q : Pointer) (found : ℕ) → tells shape seats c seat facts (Show q) found ≡ record { seat = record seat { owned = without (place_of q) seat.owned }; items = event c (Shown q) }
+  unfolding move show
+  show_told q found = ap (λ (s : Seat). record { seat = s; items = event c (Shown q) }) (number_here (λ d. seat) c (record seat { owned = without (place_of q) seat.owned }))

@@ -1,15 +1,17 @@
 -- What contracts see of a manager and of its passes.
-use Rattle.std.specs.Prelude.{◌≡◌, ℕ, List, Some}
+use Rattle.std.specs.Prelude.{◌≡◌, ℕ, not, List, map, filter, Some, unwrap_or}
 use Rattle.pass_book.specs.declared.entries.Look.{Look}
 use Rattle.pass_book.specs.Pages.{Page, Gains}
 use Rattle.pgas_base.specs.declared.shapes.Shape.{Shape}
+use Rattle.pgas_base.specs.Pointers.{Pointer}
 use Rattle.epoch_laws.specs.declared.events.Item.{Item}
-use Rattle.epoch_laws.specs.Places.{Place}
+use Rattle.epoch_laws.specs.Places.{Place, place_of, pointer_at, same_place}
 use Rattle.epoch_laws.specs.Words.{WordName}
 use Rattle.pass_table.specs.Passes.{Opening, Change, table_of, plan_of as table_plan, pass_view, pass_opening as table_opening, page as table_page, looked as table_looked, caller_of as table_caller}
 use Rattle.pass_table.specs.Calls.{Reads}
 use Rattle.epoch_table.specs.declared.events.Happens.{Happens}
 use Rattle.epoch_table.specs.declared.parts.Plan.{Plan}
+use Rattle.epoch_table.specs.Facts.{Facts, count_of}
 use Rattle.epoch_table.specs.Clients.{ClientTerms}
 use Rattle.epoch_table.specs.Events.{PastOpens, PastSteps}
 use Rattle.epoch_table.specs.Kinds.{entries_of_items}
@@ -17,6 +19,17 @@ use Rattle.epoch_table.specs.Rule.{Shows, manager_terms}
 use Rattle.epoch_manager.specs.declared.phases.Phase.{Phase}
 use Rattle.epoch_manager.specs.declared.managers.ClientPass.{ClientPass}
 use Rattle.epoch_manager.specs.declared.managers.Manager.{Manager}
+
+-- an object by the count that is known of it
+abbrev pub pointer_of : Facts → Place → Pointer
+pointer_of facts p = pointer_at p (unwrap_or (count_of facts p) 0)
+
+abbrev pub pointers : Facts → List Place → List Pointer
+pointers facts places = map (pointer_of facts) places
+
+-- the pointers to other objects than this one
+abbrev pub others : Pointer → List Pointer → List Pointer
+others q pointers = filter (λ r. not (same_place (place_of r) (place_of q))) pointers
 
 module _ {C O View' Call Reply State' : Type 0} where
   -- what a manager was opened with
@@ -53,11 +66,11 @@ module _ {C View' Call Reply : Type 0} where
   looked p = table_looked p.pass
 
   -- the objects that it owns, and those that it holds
-  abbrev pub owned_by : ClientPass C View' Call Reply → List Place
-  owned_by p = ((pass_view p.pass).part.seat).owned
+  abbrev pub owned_by : ClientPass C View' Call Reply → List Pointer
+  owned_by p = let part = (pass_view p.pass).part in pointers part.facts part.seat.owned
 
-  abbrev pub held_by : ClientPass C View' Call Reply → List Place
-  held_by p = ((pass_view p.pass).part.seat).held
+  abbrev pub held_by : ClientPass C View' Call Reply → List Pointer
+  held_by p = let part = (pass_view p.pass).part in pointers part.facts part.seat.held
 
   -- what it knows of the client
   abbrev pub knows : ClientPass C View' Call Reply → View'

@@ -1,9 +1,10 @@
 //! A manager of rows of memory that are reclaimed by epochs: what callers of it do in whole calls, each made of steps
 //! of `epoch_table`.
 //!
-//! There are the opening with its refusals, the calls on tokens (register, unregister, pin, unpin), the deferral of an
-//! object that was cut out, notes and the close, for any client; and `Cells`, a client whose links are a row of cells.
-//! The calls by which objects are taken, shown, held and reclaimed are not there yet.
+//! There are the opening with its refusals, the calls on tokens (register, unregister, pin, unpin), those on an object
+//! that the caller owns (fill, show, give_back) or has cut out (defer_delete), notes and the close, for any client; and
+//! `Cells`, a client whose links are a row of cells. The calls by which objects are taken, held and reclaimed are not
+//! there yet.
 #![tactic(auto)]
 
 mod cells;
@@ -12,6 +13,7 @@ mod deferrals;
 mod faults;
 mod managers;
 mod notes;
+mod objects;
 mod opening;
 mod passes;
 mod phases;

@@ -56,7 +56,7 @@ use Rattle.epoch_table.proofs.Epochs.{local_or_less}
 use Rattle.epoch_table.proofs.Knowledge.{head_found, row_met, told_so}
 use Rattle.epoch_table.proofs.Heads.{winners_one, winners_but, givens_then, pays, wins_once}
 use Rattle.epoch_table.proofs.Facts.{own_facts, other_facts}
-use Rattle.epoch_table.proofs.Learning.{learns, within_row}
+use Rattle.epoch_table.proofs.Learning.{learns, newly, within_row}
 use Rattle.epoch_table.proofs.Scenes.{scene, scene_after, live_is, defer_needs, take_hand, take_wins, asks_of, changes_kept, reclaims_kept, quiet_kept}
 use Rattle.epoch_table.proofs.Lows.{low_kept}
 use Rattle.epoch_table.proofs.Returns.{no_return, no_returns_then}
@@ -207,11 +207,11 @@ module _ {Self View' Call Reply State' : Type 0} (K : ClientTerms Self View' Cal
         ∙ (ap (λ n. tells plan.shape n c (now.seat c) (m.parts c).facts kind said) seats_are ∙ ap (λ x. tells plan.shape plan.callers c x (m.parts c).facts kind said) (sym (rule.seats c))))
 
     -- what the step learns of the number found
-    pub learns_so : Learns plan.shape before kind said
+    pub learns_so : Learns plan.shape before (m.parts c).facts kind said
     learns_so =
-        subst (λ x. Learns plan.shape x kind said) (sym (rule.seats c))
-        (subst (λ x. Learns x (now.seat c) kind said) shape_is
-        (learns now reached.map reached.sound (subst IsShape (sym shape_is) rule.is_shape) rule.small rule.low c said kind (within_row now c kind row) succeeds finds_now))
+        subst (λ x. Learns plan.shape x (m.parts c).facts kind said) (sym (rule.seats c))
+        (subst (λ x. Learns x (now.seat c) (m.parts c).facts kind said) shape_is
+        (learns now reached.map reached.sound (subst IsShape (sym shape_is) rule.is_shape) rule.small rule.low reached.held c (m.parts c).facts facts_now said kind (within_row now c kind row) (newly now reached.map reached.sound reached.held c (subst IsShape (sym shape_is) rule.is_shape) kind row) succeeds finds_now))
 
     abbrev pub steps_after : List Step
     steps_after = rule.steps ++ record { seat = c; kind = kind } ∷ []

@@ -1,5 +1,5 @@
 -- What a pass knows of the words of the objects that it has, and what a step leaves of that.
-use Rattle.std.specs.Prelude.{◌≡◌, ◌⊎◌, ℕ, true, if◌then◌else◌, List, [], ◌∷◌, Option, Some, None}
+use Rattle.std.specs.Prelude.{◌≡◌, ◌⊎◌, ℕ, true, false, if◌then◌else◌, List, [], ◌∷◌, Option, Some, None}
 use Rattle.epoch_laws.specs.declared.steps.Kind.{Kind}
 use Rattle.epoch_laws.specs.declared.steps.Kind.TheVariants.{TakeTry, Hold, Return, Walk, Release, StackPop, HomeWalk}
 use Rattle.epoch_laws.specs.Frames.{HasAlone}
@@ -40,6 +40,12 @@ Keeps seat p = HasAlone seat p ⊎ (is_among p seat.held ≡ true)
 
 abbrev pub InHand : Seat → Place → Type 0
 InHand seat p = is_among p seat.hand ≡ true
+
+-- the seat neither owns nor holds the object, nor has it in its hand
+pub record IsNew (seat : Seat) (p : Place) : Type 0 where
+  pub owned : is_among p seat.owned ≡ false
+  pub held : is_among p seat.held ≡ false
+  pub hand : is_among p seat.hand ≡ false
 
 -- what is known of the headers of these objects, and of the next words of those, is so
 pub record AreTrue (words : Words) (Has Hand : Place → Type 0) (facts : Facts) : Type 0 where

@@ -1,14 +1,14 @@
 -- The kinds of step of the machine on a table: from which seat, on which word, and what each tells.
-use Rattle.std.specs.Prelude.{◌≡◌, ◌⊎◌, ◌≤◌, ℕ, false, List, [], ◌∷◌, ◌++◌, map, Some}
+use Rattle.std.specs.Prelude.{◌≡◌, ◌⊎◌, ◌≤◌, ℕ, true, false, List, [], ◌∷◌, ◌++◌, map, Some}
 use Rattle.atomic_table.specs.Table.{Me}
 use Rattle.pass_book.specs.declared.entries.Entry.{Entry}
 use Rattle.pass_book.specs.declared.entries.Look.{Look}
 use Rattle.pgas_base.specs.declared.shapes.Shape.{Shape}
 use Rattle.epoch_laws.specs.declared.events.Item.{Item}
 use Rattle.epoch_laws.specs.declared.steps.Kind.{Kind}
-use Rattle.epoch_laws.specs.declared.steps.Kind.TheVariants.{PinLook, Unpin, TakeTry, Show, Hold, Touch, Return, DeferLook, ElectLocal, EpochLook, Collect, Walk, Release, StackLook, StackPop, StackPut, HomeTake, HomeWalk}
+use Rattle.epoch_laws.specs.declared.steps.Kind.TheVariants.{PinLook, Unpin, TakeLook, TakeTry, Show, Hold, Touch, Return, DeferLook, ElectLocal, EpochLook, Collect, Walk, Release, StackLook, StackPop, StackPut, HomeTake, HomeWalk}
 use Rattle.epoch_laws.specs.ChainWords.{IsChainWord}
-use Rattle.epoch_laws.specs.Places.{pending}
+use Rattle.epoch_laws.specs.Places.{Place, place_in, pending}
 use Rattle.epoch_laws.specs.Words.{WordName}
 use Rattle.pass_table.specs.declared.views.View.{View}
 use Rattle.pass_table.specs.Terms.{Effect, SeesSo, Permits}
@@ -22,12 +22,14 @@ use Rattle.epoch_table.specs.Layout.{IsNamed, named_place}
 use Rattle.epoch_laws.specs.ReclaimSteps.{last_epoch}
 use Rattle.pool_core.specs.FreeWords.{free_index}
 use Rattle.epoch_table.specs.Events.{PastOpens, PastSteps}
-use Rattle.epoch_table.specs.Facts.{count_of, facts_after}
+use Rattle.epoch_table.specs.Facts.{Facts, Keeps, IsNew, count_of, facts_after}
 use Rattle.epoch_table.specs.Heads.{won_after, Causes}
+use Rattle.epoch_table.specs.Numbers.{header_in, head_in}
 use Rattle.epoch_table.specs.Knowledge.{tells, Row}
 use Rattle.epoch_table.specs.Clients.{ClientTerms, Takes, Shows, Returns, Defers, Frees}
 use Rattle.epoch_laws.specs.Seats.{Seat}
 use Rattle.epoch_laws.specs.States.{State}
+use Rattle.epoch_laws.specs.StackSteps.{looked_top, same_head}
 use Rattle.epoch_laws.specs.TakeSteps.{look_count}
 use Rattle.pool_core.specs.Headers.{header_word}
 use Rattle.pool_core.specs.declared.headers.State.TheVariants.{Free}
@@ -97,19 +99,23 @@ IsMade (Hold pointer) = ⊥
 IsMade (Touch pointer) = ⊥
 IsMade _ = Unit {0}
 
--- What a step learns of the number that it finds, beside what that is: a take wins, an epoch isn't above the last, the object on top of a stack is one of its locale's,
--- and a chain leads to objects of the shape
-abbrev pub Learns : Shape → Seat → Kind → ℕ → Type 0
-Learns shape seat (TakeTry locale index) found = found ≡ header_word (look_count seat.free_look) Free
-Learns shape seat PinLook found = found ≤ last_epoch
-Learns shape seat (DeferLook pointer) found = found ≤ last_epoch
-Learns shape seat EpochLook found = found ≤ last_epoch
-Learns shape seat (StackLook locale) found = free_index found ≤ shape.objects
-Learns shape seat Collect found = IsChainWord shape found
-Learns shape seat Walk found = IsChainWord shape found
-Learns shape seat (HomeTake locale) found = IsChainWord shape found
-Learns shape seat HomeWalk found = (found ≡ pending) ⊎ IsChainWord shape found
-Learns shape seat _ found = Unit {0}
+-- What a step learns of the number that it finds, beside what that is: the header of an object that the seat has says the count that is known of it, a take wins, an
+-- epoch isn't above the last, the object on top of a stack is one of its locale's, and a chain leads to objects of the shape. An object that a step takes from a
+-- stack or a chain is new to the seat
+abbrev pub Learns : Shape → Seat → Facts → Kind → ℕ → Type 0
+Learns shape seat facts (TakeLook locale index) found =
+    let p : Place = record { locale = locale; index = index } in (n : ℕ) → Keeps seat p → count_of facts p ≡ Some n → (header_in found).count ≡ n
+Learns shape seat facts (TakeTry locale index) found = found ≡ header_word (look_count seat.free_look) Free
+Learns shape seat facts PinLook found = found ≤ last_epoch
+Learns shape seat facts (DeferLook pointer) found = found ≤ last_epoch
+Learns shape seat facts EpochLook found = found ≤ last_epoch
+Learns shape seat facts (StackLook locale) found = free_index found ≤ shape.objects
+Learns shape seat facts Collect found = IsChainWord shape found
+Learns shape seat facts Walk found = IsChainWord shape found × IsNew seat (place_in seat.reclaim.chain)
+Learns shape seat facts StackPop found = same_head (head_in found) seat.stack.head ≡ true → IsNew seat (looked_top seat.stack)
+Learns shape seat facts (HomeTake locale) found = IsChainWord shape found
+Learns shape seat facts HomeWalk found = ((found ≡ pending) ⊎ IsChainWord shape found) × IsNew seat (place_in seat.homing.chain)
+Learns shape seat facts _ found = Unit {0}
 
 module _ {Call Reply : Type 0} where
   -- an item as an entry of its caller
@@ -158,7 +164,7 @@ module _ {Self View' Call Reply State' : Type 0} (K : ClientTerms Self View' Cal
     -- what a step of this kind by this caller tells of the number found
     abbrev pub TellsKind : Kind → Part View' → List (ℕ × Unit {0}) → ℕ → Effect (Unit {0}) (Happens Call Reply) (Unit {0}) (Part View') WordName → Type 0
     TellsKind kind part carried found e =
-        Learns plan.shape part.seat kind found
+        Learns plan.shape part.seat part.facts kind found
         × SeesSo e (looks_of (deed part.seat kind) found) (entries_made kind part found) (part_after kind part found) carried
         × Causes plan.start.stack plan.callers kind part.won found (e.history ++ e.entries)
 
@@ -179,7 +185,7 @@ module _ {Self View' Call Reply State' : Type 0} (K : ClientTerms Self View' Cal
         → Me (Unit {0}) (View (Happens Call Reply) (Unit {0}) (Plan Self) (Part View') WordName) → Type 0
     Makes kind m found n =
         let part = m.0.part in
-        Learns plan.shape part.seat kind found
+        Learns plan.shape part.seat part.facts kind found
         × GoesTo (manager_terms K) (PastOpens opens) (PastSteps step) plan m n (looks_of (deed part.seat kind) found) (entries_made plan m.0.number kind part found)
         (part_after plan m.0.number kind part found) m.1
         × Causes plan.start.stack plan.callers kind part.won found n.0.seen

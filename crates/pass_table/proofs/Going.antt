@@ -216,14 +216,10 @@ module _ {Slot Call Reply State Plan Part Name : Type 0} (T : Terms Slot Call Re
     sound = sound;
   }
 
-  -- a seat that goes on by one step, and by several
+  -- a seat that goes on by one step goes on by several
   pub among_to : (m n : Me Slot (View Call Reply Plan Part Name)) (looks : List (Look Name)) (entries : List (Entry Call Reply)) (part : Part) (carried : List (ℕ × Slot)) → GoesTo T opens step plan m n looks entries part carried
       → GoesAmongTo T opens step plan m n looks entries part carried
   among_to m n looks entries part carried goes = (among_of m.0 n.0 looks entries goes.0, goes.1, goes.2, goes.3)
-
-  pub among_then_to : (m k n : Me Slot (View Call Reply Plan Part Name)) (looks more : List (Look Name)) (entries others : List (Entry Call Reply)) (between part : Part) (carried last : List (ℕ × Slot))
-      → GoesAmongTo T opens step plan m k looks entries between carried → GoesAmongTo T opens step plan k n more others part last → GoesAmongTo T opens step plan m n (looks ++ more) (entries ++ others) part last
-  among_then_to m k n looks more entries others between part carried last first then = (among_then m.0 k.0 n.0 looks more entries others first.0 then.0, then.1, then.2, then.3)
 
   -- what one caller alone has seen is its own
   pub alone : (v : View Call Reply Plan Part Name) → IsSound T opens step plan v → T.callers plan ≡ 1 → v.seen ≡ v.mine

@@ -1,7 +1,7 @@
 use Rattle.std.proofs.Common.{◌∙◌, sym, ap, subst, inr, refl}
 use Rattle.pass_table.specs.Passes.{me_of}
 use Rattle.epoch_manager.specs.Deferring.{DefersObject, deferral_words}
-use Rattle.epoch_manager.specs.Managers.{plan_of}
+use Rattle.epoch_manager.specs.Managers.{plan_of, pointers}
 use Rattle.epoch_manager.proofs.PassClauses.{stands_pinned, inside_so, defer_done, done_listed, done_read, done_begins, done_fits, same_pinned, Changed}
 use Rattle.epoch_manager.proofs.managers.Manager.defer_delete.Goals as goal
 
@@ -79,7 +79,7 @@ returns-clause-owned g c =
     let n = me_of c.defer_seat.new.seat in
     let defers = c.defer_seat.ensures.defers in
     let d = defer_done K o s p m n phase fits t c.args.ptr c.defer_seat.result is defers in
-    ap (λ x. x.seat.owned) d.goes.1
+    ap (λ x. pointers x.facts x.seat.owned) d.goes.1
 
 pub returns-clause-held : goal.returns-clause-held
 returns-clause-held g c =
@@ -96,7 +96,7 @@ returns-clause-held g c =
     let n = me_of c.defer_seat.new.seat in
     let defers = c.defer_seat.ensures.defers in
     let d = defer_done K o s p m n phase fits t c.args.ptr c.defer_seat.result is defers in
-    ap (λ x. x.seat.held) d.goes.1
+    ap (λ x. pointers x.facts x.seat.held) d.goes.1
 
 pub returns-clause-knows : goal.returns-clause-knows
 returns-clause-knows g c =

@@ -2,7 +2,7 @@ use Rattle.std.proofs.Common.{◌∙◌, sym, ap, refl, subst, inl, [], ◌∷�
 use Rattle.epoch_manager.specs.Tokens.{Pins}
 use Rattle.epoch_laws.specs.Words.{local_epoch}
 use Rattle.pass_table.specs.Passes.{me_of}
-use Rattle.epoch_manager.specs.Managers.{plan_of}
+use Rattle.epoch_manager.specs.Managers.{pointers, plan_of}
 use Rattle.epoch_manager.proofs.PassClauses.{stands_registered, inside_so, pin_done, done_listed, done_read, done_begins, done_fits, same_registered, Changed}
 use Rattle.epoch_manager.proofs.managers.Manager.pin.Goals as goal
 
@@ -86,7 +86,7 @@ returns-clause-same g c =
     let t = c.in-Registered.token in
     let n = me_of c.pin_seat.new.seat in
     let d = pin_done K o s p m n phase fits t c.pin_seat.result is c.pin_seat.ensures.pins in
-    (ap (λ x. x.seat.owned) d.goes.1, ap (λ x. x.seat.held) d.goes.1, ap (λ x. x.client) d.goes.1)
+    (ap (λ x. pointers x.facts x.seat.owned) d.goes.1, ap (λ x. pointers x.facts x.seat.held) d.goes.1, ap (λ x. x.client) d.goes.1)
 
 pub returns-clause-grows : goal.returns-clause-grows
 returns-clause-grows g c =

@@ -113,7 +113,7 @@ invariant_of-pass-2 g c =
     let n = me_of c.take_token-taken.new.seat in
     let idle = stands_idle m.0.part.seat phase c.requires.phase fits.stands in
     let takes = c.in-Some.ensures.takes in
-    let d = register_done K o s p m n phase fits c.args.locale c.in-Some.number takes c.requires.locale in
+    let d = register_done K o s p m n phase fits c.args.locale c.in-Some.number c.requires.phase takes c.requires.locale in
     record { fits = done_fits K o s p m n _ _ _ _ d (ap (λ x. x.plan) c.take_token-taken.ensures.seat) }
 
 pub returns-clause-history : goal.returns-clause-history
@@ -128,7 +128,7 @@ returns-clause-history g c =
     let n = me_of c.take_token-taken.new.seat in
     let idle = stands_idle m.0.part.seat phase c.requires.phase fits.stands in
     let takes = c.in-Some.ensures.takes in
-    let d = register_done K o s p m n phase fits c.args.locale c.in-Some.number takes c.requires.locale in
+    let d = register_done K o s p m n phase fits c.args.locale c.in-Some.number c.requires.phase takes c.requires.locale in
     done_listed K o s p m n _ _ _ _ d
 
 pub returns-clause-cause : goal.returns-clause-cause
@@ -143,7 +143,7 @@ returns-clause-cause g c =
     let n = me_of c.take_token-taken.new.seat in
     let idle = stands_idle m.0.part.seat phase c.requires.phase fits.stands in
     let takes = c.in-Some.ensures.takes in
-    let d = register_done K o s p m n phase fits c.args.locale c.in-Some.number takes c.requires.locale in
+    let d = register_done K o s p m n phase fits c.args.locale c.in-Some.number c.requires.phase takes c.requires.locale in
     done_read K o s p m n _ _ _ _ d _ takes.1
 
 pub returns-clause-grows : goal.returns-clause-grows
@@ -158,5 +158,5 @@ returns-clause-grows g c =
     let n = me_of c.take_token-taken.new.seat in
     let idle = stands_idle m.0.part.seat phase c.requires.phase fits.stands in
     let takes = c.in-Some.ensures.takes in
-    let d = register_done K o s p m n phase fits c.args.locale c.in-Some.number takes c.requires.locale in
+    let d = register_done K o s p m n phase fits c.args.locale c.in-Some.number c.requires.phase takes c.requires.locale in
     done_begins K o s p m n _ _ _ _ d

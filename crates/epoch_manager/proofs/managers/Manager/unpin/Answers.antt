@@ -3,7 +3,7 @@ use Rattle.epoch_laws.specs.declared.events.EpochEvent.TheVariants.{Unpinned}
 use Rattle.epoch_laws.specs.Needs.{event}
 use Rattle.epoch_laws.specs.Timing.{IsToken}
 use Rattle.pass_table.specs.Passes.{me_of}
-use Rattle.epoch_manager.specs.Managers.{plan_of, ListsItems}
+use Rattle.epoch_manager.specs.Managers.{pointers, plan_of, ListsItems}
 use Rattle.epoch_manager.proofs.PassClauses.{stands_pinned, inside_so, may_unpin, unpin_done, done_listed, done_begins, done_fits, done_looked, same_pinned, Changed}
 use Rattle.epoch_manager.proofs.managers.Manager.unpin.Goals as goal
 
@@ -76,7 +76,7 @@ returns-clause-owned g c =
     let t = c.in-Pinned.token in
     let n = me_of c.unpin.new.seat in
     let d = unpin_done K o s p m n phase fits t is c.unpin.ensures.makes in
-    ap (λ x. x.seat.owned) d.goes.1
+    ap (λ x. pointers x.facts x.seat.owned) d.goes.1
 
 pub returns-clause-held : goal.returns-clause-held
 returns-clause-held g c =
@@ -91,7 +91,7 @@ returns-clause-held g c =
     let t = c.in-Pinned.token in
     let n = me_of c.unpin.new.seat in
     let d = unpin_done K o s p m n phase fits t is c.unpin.ensures.makes in
-    ap (λ x. x.seat.held) d.goes.1
+    ap (λ x. pointers x.facts x.seat.held) d.goes.1
 
 pub returns-clause-knows : goal.returns-clause-knows
 returns-clause-knows g c =

@@ -3,7 +3,7 @@ use Rattle.epoch_laws.specs.declared.events.EpochEvent.TheVariants.{Unregistered
 use Rattle.epoch_laws.specs.Needs.{event}
 use Rattle.epoch_laws.specs.Timing.{IsToken}
 use Rattle.pass_table.specs.Passes.{me_of}
-use Rattle.epoch_manager.specs.Managers.{plan_of, ListsItems}
+use Rattle.epoch_manager.specs.Managers.{pointers, plan_of, ListsItems}
 use Rattle.epoch_manager.proofs.PassClauses.{stands_registered, inside_so, may_unregister, unregister_done, done_listed, done_begins, done_fits, done_looked, same_registered, Changed}
 use Rattle.epoch_manager.proofs.managers.Manager.unregister.Goals as goal
 
@@ -76,7 +76,7 @@ returns-clause-same g c =
     let t = c.in-Registered.token in
     let n = me_of c.unregister.new.seat in
     let d = unregister_done K o s p m n phase fits t is c.unregister.ensures.makes in
-    (ap (λ x. x.seat.owned) d.goes.1, ap (λ x. x.seat.held) d.goes.1, ap (λ x. x.client) d.goes.1)
+    (ap (λ x. pointers x.facts x.seat.owned) d.goes.1, ap (λ x. pointers x.facts x.seat.held) d.goes.1, ap (λ x. x.client) d.goes.1)
 
 pub returns-clause-grows : goal.returns-clause-grows
 returns-clause-grows g c =
