@@ -99,10 +99,10 @@ module _ {Self View' Call Reply State' : Type 0} (K : ClientTerms Self View' Cal
   abbrev pub now : State
   now = state_after first_state rule.steps
 
-  shape_is : now.shape ≡ plan.shape
+  pub shape_is : now.shape ≡ plan.shape
   shape_is = shape_after first_state rule.steps ∙ opening_shape plan.shape plan.start plan.callers
 
-  seats_are : now.seats ≡ plan.callers
+  pub seats_are : now.seats ≡ plan.callers
   seats_are = seats_after first_state rule.steps ∙ opening_seats plan.shape plan.start plan.callers
 
   pub reached : IsReached plan.start.epoch plan.start.count now (items_of first_state rule.steps)

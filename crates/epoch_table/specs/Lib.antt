@@ -10,3 +10,4 @@ pub mod Rule
 pub mod Kinds
 pub mod Spots
 pub mod RowSteps
+pub mod Holds
