@@ -7,5 +7,6 @@ pub mod ReturnSteps
 pub mod PassClauses
 pub mod ObjectSteps
 pub mod Returned
+pub mod SpotClauses
 pub mod Openings
 pub mod Closings

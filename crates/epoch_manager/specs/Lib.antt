@@ -10,3 +10,4 @@ pub mod Deferring
 pub mod Returning
 pub mod Opened
 pub mod Closed
+pub mod SpotCalls

@@ -49,7 +49,7 @@ use Rattle.epoch_table.proofs.SpotSteps.{site_so, stands_at}
 use Rattle.epoch_table.proofs.HeldRule.{hold_needs, part_holding, moment_held, rule_held, legal_held, same_scene}
 
 -- a pointer is read back from its word
-pointer_back : (q : Pointer) → IsSmall q → pointer_in (word_of q) ≡ q
+pub pointer_back : (q : Pointer) → IsSmall q → pointer_in (word_of q) ≡ q
 pointer_back q small =
     let p = place_in-word_of q small in
     let n = count_back q.locale q.index q.count small.count in
@@ -179,7 +179,7 @@ module _ {Self View' Call Reply State' : Type 0} (K : ClientTerms Self View' Cal
       (record {
         inside = subst (λ (y : Shape). IsPlace y (place_of q)) (shape_is K opens step plan m rule) n.inside;
         word_is = n.word_is;
-        count = λ k among known. ap (λ (h : Header). h.count) (sym n.shown) ∙ (rule.facts c).count (place_of q) k (inr among) known;
+        count = λ k has known. ap (λ (h : Header). h.count) (sym n.shown) ∙ (rule.facts c).count (place_of q) k has known;
       }))
       named
 

@@ -10,7 +10,7 @@ use Rattle.epoch_laws.specs.declared.events.EpochEvent.TheVariants.{Held}
 use Rattle.epoch_laws.specs.declared.events.Item.{Item}
 use Rattle.epoch_laws.specs.declared.steps.Kind.TheVariants.{Hold}
 use Rattle.epoch_laws.specs.Needs.{event}
-use Rattle.epoch_laws.specs.Places.{place_in, pointer_at, is_among, joined_by}
+use Rattle.epoch_laws.specs.Places.{place_in, pointer_at, joined_by}
 use Rattle.epoch_laws.specs.Seats.{Seat, Pinned}
 use Rattle.epoch_laws.specs.States.{IsPlace}
 use Rattle.epoch_laws.specs.Words.{WordName}
@@ -21,7 +21,7 @@ use Rattle.epoch_table.specs.declared.events.Happens.{Happens}
 use Rattle.epoch_table.specs.declared.parts.Plan.{Plan}
 use Rattle.epoch_table.specs.declared.parts.Part.{Part}
 use Rattle.epoch_table.specs.Events.{PastOpens, PastSteps}
-use Rattle.epoch_table.specs.Facts.{Facts, count_of, facts_after}
+use Rattle.epoch_table.specs.Facts.{Facts, Keeps, count_of, facts_after}
 use Rattle.epoch_table.specs.Numbers.{count_in}
 use Rattle.epoch_table.specs.Clients.{ClientTerms, Looks, Holds, is_link}
 use Rattle.epoch_table.specs.Kinds.{entries_of_items}
@@ -32,11 +32,11 @@ use Rattle.epoch_table.specs.Spots.{FindsAt, Reaches, entries_acted}
 abbrev pub pointer_in : ℕ → Pointer
 pointer_in word = pointer_at (place_in word) (count_in word)
 
--- the word is that of a pointer to an object of the shape; if the seat holds that already, with the count that is known
+-- the word is that of a pointer to an object of the shape; if the seat has that already, with the count that is known
 pub record LeadsTo (shape : Shape) (seat : Seat) (facts : Facts) (word : ℕ) : Type 0 where
   pub inside : IsPlace shape (place_in word)
   pub word_is : word_of (pointer_in word) ≡ word
-  pub count : (n : ℕ) → is_among (place_in word) seat.held ≡ true → count_of facts (place_in word) ≡ Some n → count_in word ≡ n
+  pub count : (n : ℕ) → Keeps seat (place_in word) → count_of facts (place_in word) ≡ Some n → count_in word ≡ n
 
 -- what a hold learns of the link: it is 0, or leads to an object
 abbrev pub IsLinkWord : Shape → Seat → Facts → ℕ → Type 0
