@@ -2,8 +2,11 @@ pub mod Rows
 pub mod Told
 pub mod Known
 pub mod TokenSteps
+pub mod DeferralSteps
+pub mod ReturnSteps
 pub mod PassClauses
 pub mod ObjectSteps
+pub mod Returned
 pub mod SpotClauses
 pub mod HoldClauses
 pub mod Openings

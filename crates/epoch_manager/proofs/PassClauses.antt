@@ -7,10 +7,11 @@ use mathlib.Core.List.{IsPrefix}
 use Rattle.pass_book.specs.declared.entries.Entry.{Entry}
 use Rattle.pass_book.specs.declared.entries.Look.{Look}
 use Rattle.pgas_base.specs.declared.shapes.Shape.{Shape}
+use Rattle.pgas_base.specs.Pointers.{Pointer}
 use Rattle.epoch_laws.specs.declared.tokens.Token.{Token}
 use Rattle.epoch_laws.specs.declared.events.Item.{Item}
 use Rattle.epoch_laws.specs.declared.events.Item.TheVariants.{Event}
-use Rattle.epoch_laws.specs.declared.events.EpochEvent.TheVariants.{Unregistered, Pinned as PinnedEvent, Unpinned}
+use Rattle.epoch_laws.specs.declared.events.EpochEvent.TheVariants.{Unregistered, Pinned as PinnedEvent, Unpinned, Deferred}
 use Rattle.epoch_laws.specs.declared.steps.Kind.TheVariants.{Unregister, Unpin}
 use Rattle.epoch_laws.specs.Needs.{event}
 use Rattle.epoch_laws.specs.Places.{same_token}
@@ -21,7 +22,7 @@ use Rattle.epoch_laws.proofs.Updates.{same_token_tells}
 use Rattle.pass_table.specs.declared.views.View.{View}
 use Rattle.pass_table.specs.Passes.{Change}
 use Rattle.pass_table.specs.Views.{page_of}
-use Rattle.pass_table.proofs.Going.{gains_of, goes_begins}
+use Rattle.pass_table.proofs.Going.{gains_among, among_begins}
 use Rattle.epoch_table.specs.declared.events.Happens.{Happens}
 use Rattle.epoch_table.specs.declared.parts.Plan.{Plan}
 use Rattle.epoch_table.specs.declared.parts.Part.{Part}
@@ -31,13 +32,14 @@ use Rattle.epoch_table.specs.Kinds.{entries_of_items, Makes, MayMake}
 use Rattle.epoch_table.specs.Rule.{manager_terms, is_between}
 use Rattle.epoch_manager.specs.declared.phases.Phase.{Phase}
 use Rattle.epoch_manager.specs.declared.phases.Phase.TheVariants.{Idle, Registered, Pinned}
+use Rattle.epoch_manager.specs.Deferring.{deferral_words, part_deferred, DefersSeat}
 use Rattle.epoch_manager.specs.Fits.{is_idle, is_registered, is_pinned, stands_as, is_token, is_inside, may_hold, IsKept, PassFits}
 use Rattle.epoch_manager.specs.Managers.{ListsItems, ReadsWords}
 use Rattle.epoch_manager.proofs.Known.{both, and_so, below_so, ltb_so}
 use Rattle.epoch_manager.specs.Tokens.{TakesToken, registered_items, PinsSeat}
 use Rattle.epoch_manager.proofs.Rows.{unregister_row, unpin_row}
 use Rattle.epoch_manager.proofs.Told.{unregister_told, unpin_told}
-use Rattle.epoch_manager.proofs.TokenSteps.{Seated, Goes, made_of}
+use Rattle.epoch_manager.proofs.TokenSteps.{Seated, Goes, Among, as_among, made_of}
 
 -- ---- phases
 
@@ -112,7 +114,7 @@ module _ {C View' Call Reply State' : Type 0} (K : ClientTerms C View' Call Repl
   fits_plan v phase has fits x is = subst (λ (p : Plan C). PassFits p v phase) (some_so plan x (sym has ∙ is)) fits
 
   module _ (m n : Seated K opens step plan) (words : List (Look WordName)) where
-    pub fits_after : (entries : List (Entry (Happens Call Reply) (Unit {0}))) (part : Part View') (old new : Phase) → PassFits plan m.0 old → Goes K opens step plan m n words entries part → stands_as part.seat new ≡ true → is_inside plan.shape new ≡ true
+    pub fits_after : (entries : List (Entry (Happens Call Reply) (Unit {0}))) (part : Part View') (old new : Phase) → PassFits plan m.0 old → Among K opens step plan m n words entries part → stands_as part.seat new ≡ true → is_inside plan.shape new ≡ true
         → IsKept plan.shape part new → PassFits plan n.0 new
     fits_after entries part old new fits goes stands inside kept =
         let number = goes.0.same.number in
@@ -122,33 +124,37 @@ module _ {C View' Call Reply State' : Type 0} (K : ClientTerms C View' Call Repl
     abbrev pub Changed : Change (Happens Call Reply) (Unit {0}) WordName
     Changed = record { caller = m.0.number; old = page_of m.0; new = page_of n.0; looked_old = m.0.looked; looked_new = n.0.looked }
 
-    pub listed_of : (items : List Item) (part : Part View') → Goes K opens step plan m n words (entries_of_items m.0.number items) part
+    pub listed_of : (items : List Item) (part : Part View') → Among K opens step plan m n words (entries_of_items m.0.number items) part
         → ListsItems K opens step plan Changed items
-    listed_of items part goes = gains_of (manager_terms K) (PastOpens opens) (PastSteps step) plan m.0 n.0 words (entries_of_items m.0.number items) goes.0
+    listed_of items part goes = gains_among (manager_terms K) (PastOpens opens) (PastSteps step) plan m.0 n.0 words (entries_of_items m.0.number items) goes.0
 
-    pub read_of : (entries : List (Entry (Happens Call Reply) (Unit {0}))) (part : Part View') (IsCause : List (Look WordName) → Type 0) → Goes K opens step plan m n words entries part → IsCause words
+    pub read_of : (entries : List (Entry (Happens Call Reply) (Unit {0}))) (part : Part View') (IsCause : List (Look WordName) → Type 0) → Among K opens step plan m n words entries part → IsCause words
         → ReadsWords K opens step plan Changed IsCause
     read_of entries part IsCause goes cause = record { words = words; looked = goes.0.looked; cause = cause; meets = goes.0.meets }
 
-    pub begins_of : (entries : List (Entry (Happens Call Reply) (Unit {0}))) (part : Part View') → Goes K opens step plan m n words entries part → IsPrefix m.0.seen n.0.seen
-    begins_of entries part goes = goes_begins (manager_terms K) (PastOpens opens) (PastSteps step) plan m.0 n.0 words entries goes.0
+    pub begins_of : (entries : List (Entry (Happens Call Reply) (Unit {0}))) (part : Part View') → Among K opens step plan m n words entries part → IsPrefix m.0.seen n.0.seen
+    begins_of entries part goes = among_begins (manager_terms K) (PastOpens opens) (PastSteps step) plan m.0 n.0 words entries goes.0
 
   -- a whole call: what it read and listed, and that its pass is between two calls again, in this phase
   pub record Done (m n : Seated K opens step plan) (words : List (Look WordName)) (items : List Item) (part : Part View') (new : Phase) : Type 0 where
-    pub goes : Goes K opens step plan m n words (entries_of_items m.0.number items) part
+    pub goes : Among K opens step plan m n words (entries_of_items m.0.number items) part
     pub rests : n.0.rests ≡ true
     pub carried : n.1 ≡ m.1
     pub fits : PassFits plan n.0 new
 
   module _ (m n : Seated K opens step plan) (words : List (Look WordName)) (items : List Item) (part : Part View') where
-    pub done : (old new : Phase) → PassFits plan m.0 old → Goes K opens step plan m n words (entries_of_items m.0.number items) part → is_between part.seat.phase ≡ true → stands_as part.seat new ≡ true → is_inside plan.shape new ≡ true
+    pub done_among : (old new : Phase) → PassFits plan m.0 old → Among K opens step plan m n words (entries_of_items m.0.number items) part → is_between part.seat.phase ≡ true → stands_as part.seat new ≡ true → is_inside plan.shape new ≡ true
         → IsKept plan.shape part new → Done m n words items part new
-    done old new fits goes between stands inside kept = record {
+    done_among old new fits goes between stands inside kept = record {
       goes = goes;
       rests = goes.3 ∙ between;
       carried = goes.2;
       fits = fits_after m n words (entries_of_items m.0.number items) part old new fits goes stands inside kept;
     }
+
+    pub done : (old new : Phase) → PassFits plan m.0 old → Goes K opens step plan m n words (entries_of_items m.0.number items) part → is_between part.seat.phase ≡ true → stands_as part.seat new ≡ true → is_inside plan.shape new ≡ true
+        → IsKept plan.shape part new → Done m n words items part new
+    done old new fits goes = done_among old new fits (as_among K opens step plan m n words (entries_of_items m.0.number items) part goes)
 
   -- what its clauses say
   module _ (m n : Seated K opens step plan) (words : List (Look WordName)) (items : List Item) (part : Part View') (new : Phase) (d : Done m n words items part new) where
@@ -207,6 +213,17 @@ module _ {C View' Call Reply State' : Type 0} (K : ClientTerms C View' Call Repl
         done m n (record { name = local_epoch t.locale; word = epoch } ∷ []) (Event m.0.number (PinnedEvent t) epoch ∷ []) part phase (Pinned t) fits pins.1 refl (now_pinned part.seat t refl stands.1)
         (subst (λ (p : Phase). is_inside plan.shape p ≡ true) is fits.inside)
         (record { done = fits.kept.done; owned = fits.kept.owned; held = fits.kept.held; pinned = refl })
+
+    pub defer_done : (t : Token) (q : Pointer) (tag : ℕ) → phase ≡ Pinned t → (defers : DefersSeat K opens step plan q m tag n)
+        → Done m n (deferral_words t.locale tag defers.1.0) (Event m.0.number (Deferred t q) tag ∷ []) (part_deferred K q tag defers.1.0 m.0.part) phase
+    defer_done t q tag is defers =
+        let stands = stands_pinned m.0.part.seat phase t is fits.stands in
+        let old = defers.1.0 in
+        let part : Part View' = part_deferred K q tag old m.0.part in
+        let goes = subst (λ (u : Token). Among K opens step plan m n (deferral_words u.locale tag old) (entries_of_items m.0.number (Event m.0.number (Deferred u q) tag ∷ [])) part) stands.1 defers.1.1 in
+        done_among m n (deferral_words t.locale tag old) (Event m.0.number (Deferred t q) tag ∷ []) part phase phase fits goes refl
+        (subst (λ (f : Phase). stands_as part.seat f ≡ true) (sym is) (now_pinned part.seat t refl stands.1)) fits.inside
+        (record { done = fits.kept.done; owned = fits.kept.owned; held = fits.kept.held; pinned = fits.kept.pinned })
 
   -- a token of the pass is one of the shape's
   pub inside_so : (phase : Phase) (t : Token) (v : View (Happens Call Reply) (Unit {0}) (Plan C) (Part View') WordName) → PassFits plan v phase → (phase ≡ Registered t) ⊎ (phase ≡ Pinned t) → IsToken plan.shape.locales plan.shape.tokens t

@@ -28,7 +28,7 @@ use Rattle.epoch_manager.proofs.Known.{IsKnownAmong, one_of}
 use Rattle.epoch_manager.proofs.ObjectSteps.{rests_so}
 use Rattle.epoch_manager.proofs.PassClauses.{fits_after, Changed}
 use Rattle.epoch_manager.proofs.Rows.{touch_row}
-use Rattle.epoch_manager.proofs.TokenSteps.{Seated, Goes}
+use Rattle.epoch_manager.proofs.TokenSteps.{Seated, Goes, as_among}
 
 module _ {C View' Call Reply State' : Type 0} (K : ClientTerms C View' Call Reply State') (opens : State' → Type 0) (step : State' → Call → Reply → State' → Type 0) (plan : Plan C) where
   -- a call whose steps went so, and whose pass is between two calls again, in the same phase
@@ -44,7 +44,7 @@ module _ {C View' Call Reply State' : Type 0} (K : ClientTerms C View' Call Repl
     goes = goes;
     rests = goes.3 ∙ between;
     carried = goes.2;
-    fits = fits_after K opens step plan m n [] entries part phase phase fits goes stands fits.inside kept;
+    fits = fits_after K opens step plan m n [] entries part phase phase fits (as_among K opens step plan m n [] entries part goes) stands fits.inside kept;
   }
 
   module _ (m n : Seated K opens step plan) where

@@ -12,8 +12,8 @@ use Rattle.epoch_laws.specs.Needs.{event}
 use Rattle.epoch_laws.specs.Seats.{Idle, Registered, PinLooked, Pinned}
 use Rattle.epoch_laws.specs.Words.{WordName, token, local_epoch}
 use Rattle.pass_table.specs.declared.views.View.{View}
-use Rattle.pass_table.specs.Steps.{GoesTo}
-use Rattle.pass_table.proofs.Going.{goes_then}
+use Rattle.pass_table.specs.Steps.{GoesTo, GoesAmongTo}
+use Rattle.pass_table.proofs.Going.{goes_then, among_then, among_to}
 use Rattle.pass_table.proofs.Lists.{in_order_more}
 use Rattle.epoch_table.specs.declared.events.Happens.{Happens}
 use Rattle.epoch_table.specs.declared.parts.Plan.{Plan}
@@ -55,6 +55,22 @@ module _ {C View' Call Reply State' : Type 0} (K : ClientTerms C View' Call Repl
   pub then_goes : (m k n : Seated) (words more : List (Look WordName)) (entries : List (Entry (Happens Call Reply) (Unit {0}))) (part last : Part View') → Goes m k words [] part → Goes k n more entries last → Goes m n (words ++ more) entries last
   then_goes m k n words more entries part last first next = (
     goes_then (manager_terms K) (PastOpens opens) (PastSteps step) plan m.0 k.0 n.0 words more entries first.0 next.0,
+    next.1,
+    next.2 ∙ first.2,
+    next.3,
+  )
+
+  -- the same of steps that made entries, between which those of others may stand
+  abbrev pub Among : Seated → Seated → List (Look WordName) → List (Entry (Happens Call Reply) (Unit {0})) → Part View' → Type 0
+  Among m n words entries part = GoesAmongTo (manager_terms K) (PastOpens opens) (PastSteps step) plan m n words entries part m.1
+
+  pub as_among : (m n : Seated) (words : List (Look WordName)) (entries : List (Entry (Happens Call Reply) (Unit {0}))) (part : Part View') → Goes m n words entries part → Among m n words entries part
+  as_among m n words entries part goes = among_to (manager_terms K) (PastOpens opens) (PastSteps step) plan m n words entries part m.1 goes
+
+  pub then_among : (m k n : Seated) (words more : List (Look WordName)) (entries others : List (Entry (Happens Call Reply) (Unit {0}))) (part last : Part View') → Among m k words entries part → Among k n more others last
+      → Among m n (words ++ more) (entries ++ others) last
+  then_among m k n words more entries others part last first next = (
+    among_then (manager_terms K) (PastOpens opens) (PastSteps step) plan m.0 k.0 n.0 words more entries others first.0 next.0,
     next.1,
     next.2 ∙ first.2,
     next.3,

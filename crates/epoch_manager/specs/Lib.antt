@@ -6,6 +6,8 @@ pub mod CellLaws
 pub mod Fits
 pub mod Managers
 pub mod Tokens
+pub mod Deferring
+pub mod Returning
 pub mod Opened
 pub mod Closed
 pub mod SpotCalls

@@ -1,13 +1,15 @@
 //! A manager of rows of memory that are reclaimed by epochs: what callers of it do in whole calls, each made of steps
 //! of `epoch_table`.
 //!
-//! There are the opening with its refusals, the calls on tokens (register, unregister, pin, unpin), notes and the
-//! close, for any client; and `Cells`, a client whose links are a row of cells. The calls by which objects are taken,
-//! shown, held, deferred and reclaimed are not there yet.
+//! There are the opening with its refusals, the calls on tokens (register, unregister, pin, unpin), those on an object
+//! that the caller owns (fill, show, give_back) or has cut out (defer_delete), steps on the client's words and on rows,
+//! reads, notes and the close, for any client; and `Cells`, a client whose links are a row of cells. The calls by which
+//! objects are taken, held and reclaimed are not there yet.
 #![tactic(auto)]
 
 mod cells;
 mod closing;
+mod deferrals;
 mod faults;
 mod holds;
 mod managers;
@@ -18,6 +20,7 @@ mod passes;
 mod phases;
 mod plain_cells;
 mod reads;
+mod returns;
 mod spots;
 mod tokens;
 

@@ -43,8 +43,7 @@ use Rattle.epoch_table.proofs.Facts.{count_back}
 use Rattle.epoch_table.proofs.Histories.{entries_own}
 use Rattle.epoch_table.proofs.Entering.{happened_own}
 use Rattle.epoch_table.proofs.Scenes.{live_is}
-use Rattle.epoch_table.proofs.MachineSteps.{now, shape_is, seats_are, reached}
-use Rattle.epoch_table.proofs.Insides.{things_inside}
+use Rattle.epoch_table.proofs.MachineSteps.{now, shape_is, seats_are, reached, things_inside}
 use Rattle.epoch_table.proofs.ClientSteps.{scene_before, scene_written, acts_at}
 use Rattle.epoch_table.proofs.SpotSteps.{site_so, stands_at}
 use Rattle.epoch_table.proofs.HeldRule.{hold_needs, part_holding, moment_held, rule_held, legal_held, same_scene}

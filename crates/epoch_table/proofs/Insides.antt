@@ -20,14 +20,8 @@ use Rattle.epoch_laws.specs.Steps.{move}
 use Rattle.epoch_laws.specs.Runs.{AreAllowed, outcome, state_after}
 use Rattle.epoch_laws.proofs.SoundRuns.{shape_kept}
 use Rattle.epoch_laws.proofs.Updates.{at_place}
-use Rattle.pass_table.specs.Terms.{Moment}
-use Rattle.epoch_table.specs.declared.events.Happens.{Happens}
-use Rattle.epoch_table.specs.declared.parts.Plan.{Plan}
-use Rattle.epoch_table.specs.declared.parts.Part.{Part}
-use Rattle.epoch_table.specs.Clients.{ClientTerms, Thing, thing_of, AreInside}
-use Rattle.epoch_table.specs.Rule.{row_word, ManagerRule}
+use Rattle.epoch_table.specs.Clients.{Thing, thing_of}
 use Rattle.epoch_table.proofs.Quiet.{untouched}
-use Rattle.epoch_table.proofs.MachineSteps.{now, shape_is}
 
 abbrev is_thing : HeaderState → Bool
 is_thing Free = false
@@ -60,26 +54,17 @@ inside_kept s c (Release q) h is =
     (cases_Bool (q.count == last_count))
 inside_kept s c k h is = subst (AreOfShape s.shape) (sym (untouched s c k tt).header) is
 
-inside_after : (s : State) (steps : List Step) → AreAllowed s steps → AreOfShape s.shape s.words.header → AreOfShape (state_after s steps).shape (state_after s steps).words.header
+pub inside_after : (s : State) (steps : List Step) → AreAllowed s steps → AreOfShape s.shape s.words.header → AreOfShape (state_after s steps).shape (state_after s steps).words.header
 inside_after s [] allowed is = is
 inside_after s (x ∷ steps) allowed is =
     let next = (outcome s x).next in inside_after next steps allowed.1 (subst (λ shape. AreOfShape shape next.words.header) (sym (shape_kept s x.seat x.kind)) (inside_kept s x.seat x.kind allowed.0 is))
 
-opening_inside : (shape : Shape) (start : Start) (seats : ℕ) → AreOfShape (opening shape start seats).shape (opening shape start seats).words.header
+pub opening_inside : (shape : Shape) (start : Start) (seats : ℕ) → AreOfShape (opening shape start seats).shape (opening shape start seats).words.header
 unfolding opening opening_words
 opening_inside shape start seats p e = absurd (false≢true e)
 
-thing_state : (st : HeaderState) (n : ℕ) (tag : Option ℕ) (row : ℕ → ℕ) (x : Thing) → thing_of (record { count = n; state = st }) tag row ≡ Some x → is_thing st ≡ true
+pub thing_state : (st : HeaderState) (n : ℕ) (tag : Option ℕ) (row : ℕ → ℕ) (x : Thing) → thing_of (record { count = n; state = st }) tag row ≡ Some x → is_thing st ≡ true
 thing_state Free n tag row x e = absurd (cc e)
 thing_state Own n tag row x e = refl
 thing_state Shown n tag row x e = refl
 thing_state Worn n tag row x e = absurd (cc e)
-
-module _ {Self View' Call Reply State' : Type 0} (K : ClientTerms Self View' Call Reply State') (opens : State' → Type 0) (step : State' → Call → Reply → State' → Type 0)
-    (plan : Plan Self) (m : Moment (Unit {0}) (Happens Call Reply) (Unit {0}) (Part View')) (rule : ManagerRule K plan m) where
-  pub things_inside : AreInside plan.shape (λ p. thing_of ((now K opens step plan m rule).words.header p) ((now K opens step plan m rule).tag p) (row_word plan.shape m.words p))
-  things_inside p x e =
-      let s = now K opens step plan m rule in
-      let first = opening plan.shape plan.start plan.callers in
-      let all = inside_after first rule.steps rule.run (opening_inside plan.shape plan.start plan.callers) in
-      subst (λ (shape : Shape). IsPlace shape p) (shape_is K opens step plan m rule) (all p (thing_state (s.words.header p).state (s.words.header p).count (s.tag p) (row_word plan.shape m.words p) x e))

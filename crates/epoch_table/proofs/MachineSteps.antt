@@ -21,7 +21,7 @@ use Rattle.epoch_laws.specs.Places.{Place, place_of, with_number}
 use Rattle.epoch_laws.specs.TakeSteps.{look_count}
 use Rattle.epoch_laws.specs.Words.{Words, WordName, global_epoch, global_election, local_epoch, local_election, list, free_stack, home_chain, token, header_of, next_of, word_at}
 use Rattle.epoch_laws.specs.Seats.{Seat, is_reclaiming}
-use Rattle.epoch_laws.specs.States.{State, opening}
+use Rattle.epoch_laws.specs.States.{State, IsPlace, opening}
 use Rattle.epoch_laws.specs.Needs.{AllMet, Outcome}
 use Rattle.epoch_laws.specs.TokenSteps.{unpin}
 use Rattle.epoch_laws.specs.Steps.{move}
@@ -48,7 +48,7 @@ use Rattle.epoch_table.specs.Facts.{AreFacts, facts_after}
 use Rattle.epoch_table.specs.Heads.{weight, winners, givens, won_after, Causes}
 use Rattle.epoch_table.specs.Events.{HasNoReturn, AreOf, items_in, entries_in, PastOpens, PastSteps}
 use Rattle.epoch_table.specs.Knowledge.{Told, told, tells, Finds, IsKnown, Row}
-use Rattle.epoch_table.specs.Clients.{ClientTerms, Scene, AreLawful, thing_of, deferrals_in}
+use Rattle.epoch_table.specs.Clients.{ClientTerms, Scene, AreLawful, AreInside, thing_of, deferrals_in}
 use Rattle.epoch_table.specs.Rule.{AreShown, AreSmall, AreLow, Shows, row_word, scene_of, ManagerRule, manager_terms}
 use Rattle.epoch_table.specs.Kinds.{looks_of, IsOn, entries_of_items, client_after, IsQuiet, IsMade, Succeeds, Allows, part_after, MayMake, Learns}
 use Rattle.epoch_table.proofs.Deeds.{does}
@@ -56,6 +56,7 @@ use Rattle.epoch_table.proofs.Epochs.{local_or_less}
 use Rattle.epoch_table.proofs.Knowledge.{head_found, row_met, told_so}
 use Rattle.epoch_table.proofs.Heads.{winners_one, winners_but, givens_then, pays, wins_once}
 use Rattle.epoch_table.proofs.Facts.{own_facts, other_facts}
+use Rattle.epoch_table.proofs.Insides.{inside_after, opening_inside, thing_state}
 use Rattle.epoch_table.proofs.Learning.{learns, newly, within_row}
 use Rattle.epoch_table.proofs.Scenes.{scene, scene_after, live_is, defer_needs, take_hand, take_wins, asks_of, changes_kept, reclaims_kept, quiet_kept}
 use Rattle.epoch_table.proofs.Lows.{low_kept}
@@ -101,6 +102,12 @@ module _ {Self View' Call Reply State' : Type 0} (K : ClientTerms Self View' Cal
 
   pub shape_is : now.shape ≡ plan.shape
   shape_is = shape_after first_state rule.steps ∙ opening_shape plan.shape plan.start plan.callers
+
+  -- what the client speaks of is inside the shape
+  pub things_inside : AreInside plan.shape (λ p. thing_of (now.words.header p) (now.tag p) (row_word plan.shape m.words p))
+  things_inside p x e =
+      let all = inside_after first_state rule.steps rule.run (opening_inside plan.shape plan.start plan.callers) in
+      subst (λ (shape : Shape). IsPlace shape p) shape_is (all p (thing_state (now.words.header p).state (now.words.header p).count (now.tag p) (row_word plan.shape m.words p) x e))
 
   pub seats_are : now.seats ≡ plan.callers
   seats_are = seats_after first_state rule.steps ∙ opening_seats plan.shape plan.start plan.callers
@@ -166,7 +173,7 @@ module _ {Self View' Call Reply State' : Type 0} (K : ClientTerms Self View' Cal
         row_of (DeferLook q) made allowed h =
             let lawful = laws.deferrals plan.client plan.shape scene_now c q rule.client allowed in
             let live = live_is (now.words.header (place_of q)) (now.tag (place_of q)) (rows (place_of q)) lawful.0 q lawful.1 in
-            defer_needs now c q h live.0 live.1
+            defer_needs now c q h (subst (λ x. IsPlace x (place_of q)) (sym shape_is) (things_inside (place_of q) _ lawful.1)) live.0 live.1
         row_of (Hold q) made allowed h = absurd made
         row_of (Touch q) made allowed h = absurd made
         row_of k made allowed h = row_met now c k (m.parts c).facts tt facts_now h

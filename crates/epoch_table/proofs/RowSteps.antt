@@ -30,8 +30,7 @@ use Rattle.epoch_table.specs.RowSteps.{MayRead, MayFill, FindsOwn, FindsIn, Tell
 use Rattle.epoch_table.proofs.Places.{row_within}
 use Rattle.epoch_table.proofs.Writing.{in_row}
 use Rattle.epoch_table.proofs.Scenes.{owned_fits}
-use Rattle.epoch_table.proofs.MachineSteps.{now, reached}
-use Rattle.epoch_table.proofs.Insides.{things_inside}
+use Rattle.epoch_table.proofs.MachineSteps.{now, reached, things_inside}
 use Rattle.epoch_table.proofs.ClientSteps.{scene_before, scene_written, acts_at}
 use Rattle.epoch_table.proofs.SpotWords.{words_stay, things_after}
 use Rattle.epoch_table.proofs.SpotSteps.{place_in_row, row_is_at}

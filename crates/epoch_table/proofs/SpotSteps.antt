@@ -29,8 +29,7 @@ use Rattle.epoch_table.specs.Rule.{row_word, scene_of, ManagerRule, manager_term
 use Rattle.epoch_table.specs.Spots.{happened, FindsAt, acted, entries_acted, TellsAt, Reaches, MayStep, PermittedAt, StepsAt}
 use Rattle.epoch_table.proofs.Places.{row_within}
 use Rattle.epoch_table.proofs.Writing.{in_row, row_stays}
-use Rattle.epoch_table.proofs.MachineSteps.{now, reached}
-use Rattle.epoch_table.proofs.Insides.{things_inside}
+use Rattle.epoch_table.proofs.MachineSteps.{now, reached, things_inside}
 use Rattle.epoch_table.proofs.ClientSteps.{scene_before, scene_written, acts_at}
 use Rattle.epoch_table.proofs.SpotWords.{shown_thing, words_after, words_stay, things_after}
 

@@ -17,7 +17,7 @@ use Rattle.pass_table.specs.Terms.{Terms, Effect, SeesSo, MovesSo}
 use Rattle.pass_table.specs.Words.{Meets, AreTries, joined}
 use Rattle.pass_table.specs.Views.{page_of}
 use Rattle.pass_table.proofs.Lists.{all_one}
-use Rattle.pass_table.specs.Steps.{IsSound, view_after, Steps, SameCaller, Goes, Stays, GoesTo, StaysTo, HasTried}
+use Rattle.pass_table.specs.Steps.{IsSound, view_after, Steps, SameCaller, Goes, GoesAmong, Stays, GoesTo, GoesAmongTo, StaysTo, HasTried}
 
 append_same : {A : Type 0} (xs ys zs : List A) → xs ++ ys ≡ xs ++ zs → ys ≡ zs
 append_same [] ys zs same = same
@@ -133,13 +133,13 @@ module _ {Slot Call Reply State Plan Part Name : Type 0} (T : Terms Slot Call Re
 
   module _ (v w : View Call Reply Plan Part Name) (looks : List (Look Name)) where
     -- what was seen begins what is seen
-    pub goes_begins : (entries : List (Entry Call Reply)) → Goes T opens step plan v w looks entries → IsPrefix v.seen w.seen
-    goes_begins entries goes = meets_begins (T.shows plan) v.seen w.seen looks goes.meets
+    pub among_begins : (entries : List (Entry Call Reply)) → GoesAmong T opens step plan v w looks entries → IsPrefix v.seen w.seen
+    among_begins entries goes = meets_begins (T.shows plan) v.seen w.seen looks goes.meets
 
     -- the caller's page gains its entries
-    pub gains_of : (entries : List (Entry Call Reply)) → Goes T opens step plan v w looks entries → Gains opens step (T.start plan) v.number (page_of v) (page_of w) entries
-    gains_of entries goes =
-        let p = goes_begins entries goes in
+    pub gains_among : (entries : List (Entry Call Reply)) → GoesAmong T opens step plan v w looks entries → Gains opens step (T.start plan) v.number (page_of v) (page_of w) entries
+    gains_among entries goes =
+        let p = among_begins entries goes in
         let own : w.mine ≡ entries_of v.number w.seen = subst (λ c. w.mine ≡ entries_of c w.seen) goes.same.number goes.sound.own in
         let split : entries_of v.number w.seen ≡ v.mine ++ entries_of v.number p.0 =
         ap (entries_of v.number) (sym p.1) ∙ (entries_of-append v.number v.seen p.0 ∙ ap (λ l. l ++ entries_of v.number p.0) (sym goes.before.own)) in
@@ -151,6 +151,17 @@ module _ {Slot Call Reply State Plan Part Name : Type 0} (T : Terms Slot Call Re
           own = own;
           legal = goes.sound.legal;
         }
+
+    -- steps behind whose entries nothing stands are steps
+    pub among_of : (entries : List (Entry Call Reply)) → Goes T opens step plan v w looks entries → GoesAmong T opens step plan v w looks entries
+    among_of entries goes = record { same = goes.same; mine = goes.mine; looked = goes.looked; meets = goes.meets; before = goes.before; sound = goes.sound }
+
+    -- the same of steps behind whose entries nothing stands
+    pub goes_begins : (entries : List (Entry Call Reply)) → Goes T opens step plan v w looks entries → IsPrefix v.seen w.seen
+    goes_begins entries goes = among_begins entries (among_of entries goes)
+
+    pub gains_of : (entries : List (Entry Call Reply)) → Goes T opens step plan v w looks entries → Gains opens step (T.start plan) v.number (page_of v) (page_of w) entries
+    gains_of entries goes = gains_among entries (among_of entries goes)
 
     -- a call with one entry, behind which nothing stands
     pub enters_of : (call : Call) (reply : Reply) → Goes T opens step plan v w looks (record { caller = v.number; call = call; reply = reply } ∷ [])
@@ -181,6 +192,34 @@ module _ {Slot Call Reply State Plan Part Name : Type 0} (T : Terms Slot Call Re
       own = (gains_of [] goes).own;
       legal = goes.sound.legal;
     }
+
+  -- steps that made entries, and then more
+  pub among_then : (v m w : View Call Reply Plan Part Name) (looks more : List (Look Name)) (entries others : List (Entry Call Reply)) → GoesAmong T opens step plan v m looks entries → GoesAmong T opens step plan m w more others
+      → GoesAmong T opens step plan v w (looks ++ more) (entries ++ others)
+  among_then v m w looks more entries others first then = record {
+    same = record { opened = then.same.opened ∙ first.same.opened; number = then.same.number ∙ first.same.number };
+    mine = then.mine ∙ (ap (λ l. l ++ others) first.mine ∙ append_assoc v.mine entries others);
+    looked = then.looked ∙ (ap (λ l. l ++ more) first.looked ∙ append_assoc v.looked looks more);
+    meets = meets_then (T.shows plan) v.seen m.seen w.seen looks more first.meets then.meets;
+    before = first.before;
+    sound = then.sound;
+  }
+
+  -- no step yet
+  pub among_none : (v : View Call Reply Plan Part Name) → IsSound T opens step plan v → GoesAmong T opens step plan v v [] []
+  among_none v sound = record {
+    same = record { opened = refl; number = refl };
+    mine = sym (append-nil v.mine);
+    looked = sym (append-nil v.looked);
+    meets = prefix_self v.seen;
+    before = sound;
+    sound = sound;
+  }
+
+  -- a seat that goes on by one step goes on by several
+  pub among_to : (m n : Me Slot (View Call Reply Plan Part Name)) (looks : List (Look Name)) (entries : List (Entry Call Reply)) (part : Part) (carried : List (ℕ × Slot)) → GoesTo T opens step plan m n looks entries part carried
+      → GoesAmongTo T opens step plan m n looks entries part carried
+  among_to m n looks entries part carried goes = (among_of m.0 n.0 looks entries goes.0, goes.1, goes.2, goes.3)
 
   -- what one caller alone has seen is its own
   pub alone : (v : View Call Reply Plan Part Name) → IsSound T opens step plan v → T.callers plan ≡ 1 → v.seen ≡ v.mine

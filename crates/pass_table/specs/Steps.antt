@@ -58,6 +58,15 @@ module _ {Slot Call Reply State Plan Part Name : Type 0} (T : Terms Slot Call Re
     pub before : IsSound v
     pub sound : IsSound w
 
+  -- The same of several steps that made entries: these stand in their order in what is seen, and others' entries may stand between them
+  pub record GoesAmong (v w : View Call Reply Plan Part Name) (looks : List (Look Name)) (entries : List (Entry Call Reply)) : Type 0 where
+    pub same : SameCaller v w
+    pub mine : w.mine ≡ v.mine ++ entries
+    pub looked : w.looked ≡ v.looked ++ looks
+    pub meets : Meets (T.shows plan) v.seen w.seen looks
+    pub before : IsSound v
+    pub sound : IsSound w
+
   -- steps that saw and read nothing
   pub record Stays (v w : View Call Reply Plan Part Name) : Type 0 where
     pub same : SameCaller v w
@@ -68,6 +77,10 @@ module _ {Slot Call Reply State Plan Part Name : Type 0} (T : Terms Slot Call Re
   -- the seat goes on, by a step that sees, to this part with these slots
   abbrev pub GoesTo : Me Slot (View Call Reply Plan Part Name) → Me Slot (View Call Reply Plan Part Name) → List (Look Name) → List (Entry Call Reply) → Part → List (ℕ × Slot) → Type 0
   GoesTo m n looks entries part carried = Goes m.0 n.0 looks entries × (n.0.part ≡ part) × (n.1 ≡ carried) × (n.0.rests ≡ T.rests part)
+
+  -- the same by several steps that made entries
+  abbrev pub GoesAmongTo : Me Slot (View Call Reply Plan Part Name) → Me Slot (View Call Reply Plan Part Name) → List (Look Name) → List (Entry Call Reply) → Part → List (ℕ × Slot) → Type 0
+  GoesAmongTo m n looks entries part carried = GoesAmong m.0 n.0 looks entries × (n.0.part ≡ part) × (n.1 ≡ carried) × (n.0.rests ≡ T.rests part)
 
   -- the same by a step that sees and reads nothing
   abbrev pub StaysTo : Me Slot (View Call Reply Plan Part Name) → Me Slot (View Call Reply Plan Part Name) → Part → List (ℕ × Slot) → Type 0

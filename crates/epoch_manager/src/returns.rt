@@ -1,0 +1,50 @@
+//! How an object that was never shown is given back.
+ghost use Rattle.std.specs.Prelude.{◌≡◌, Contains};
+ghost use mathlib.Core.List.{IsPrefix};
+ghost use Rattle.epoch_laws.specs.declared.events.EpochEvent.TheVariants.{Returned};
+ghost use Rattle.epoch_laws.specs.Needs.{event};
+ghost use Rattle.epoch_table.specs.Clients.{Returns};
+ghost use Rattle.pass_table.specs.Passes.{IsSeatOf, view_of, me_of};
+ghost use Rattle.epoch_manager.specs.Managers.{plan_of, opening_of, pass_opening, phase_of, caller_of, page, owned_by, held_by, knows, others, IsSamePass, change, ListsItems, ReadsWords};
+ghost use Rattle.epoch_manager.specs.Returning.{MayReturn, ReturnsSeat, ReturnCause};
+
+use crate::managers::{Manager, Pass};
+use epoch_table::{Client, TableSeat};
+use pgas_base::Ptr;
+
+// The next word of an object that has no link yet.
+const PENDING: u64 = u64::MAX;
+
+impl<C: Client> Manager<C> {
+    // The four steps of a give-back: the object is free, and goes home as a chain of one.
+    #[inline]
+    fn return_seat(&self, seat: &mut TableSeat<C>, ptr: Ptr)
+        requires seat { IsSeatOf self.now.words.table seat.old }
+        requires may { MayReturn C.terms (plan_of self.now) ptr (view_of seat.old).number (view_of seat.old).part }
+        ensures seat { IsSeatOf self.now.words.table seat.new }
+        ensures returns { ReturnsSeat C.terms C.Object.opens C.Object.step (plan_of self.now) ptr (me_of seat.old) (me_of seat.new) }
+    {
+        self.words.give_back(seat, ptr);
+        self.words.hand_link(seat, ptr, PENDING);
+        let old = self.words.home_swap(seat, ptr, ptr);
+        self.words.home_link(seat, ptr.locale(), ptr.index(), old);
+    }
+
+    /// Gives back an object that the caller owns and has not shown. The object is free again, with the same count, and
+    /// goes home to its locale, where a later take finds it.
+    pub fn give_back(&self, pass: &mut Pass<C>, ptr: Ptr)
+        requires opening { pass_opening pass.old ≡ opening_of self.now }
+        requires owned { Contains (owned_by pass.old) ptr }
+        requires allowed { C.terms.gives_back }
+        ensures pass { IsSamePass pass.old pass.new }
+        ensures phase { phase_of pass.new ≡ phase_of pass.old }
+        ensures owned { owned_by pass.new ≡ others ptr (owned_by pass.old) }
+        ensures held { held_by pass.new ≡ held_by pass.old }
+        ensures knows { knows pass.new ≡ C.terms.after (knows pass.old) (Returns ptr) 0 }
+        ensures history { ListsItems C.terms C.Object.opens C.Object.step (plan_of self.now) (change pass.old pass.new) (event (caller_of pass.old) (Returned ptr)) }
+        ensures grows { IsPrefix (page pass.old).seen (page pass.new).seen }
+        ensures read { ReadsWords C.terms C.Object.opens C.Object.step (plan_of self.now) (change pass.old pass.new) (ReturnCause ptr.locale) }
+    {
+        self.return_seat(&mut pass.pass.seat, ptr);
+    }
+}
