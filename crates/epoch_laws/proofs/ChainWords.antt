@@ -7,8 +7,6 @@ use Rattle.epoch_laws.specs.ChainWords.{IsChainWord}
 use Rattle.epoch_laws.specs.Places.{Place, place_in, pending, is_among}
 use Rattle.epoch_laws.specs.Seats.{Advanced}
 use Rattle.epoch_laws.specs.States.{State, IsPlace}
-use Rattle.epoch_laws.specs.Needs.{AllMet}
-use Rattle.epoch_laws.specs.StackSteps.{stack_pop, looked_top, same_head}
 use Rattle.epoch_laws.specs.Locations.{Location, InStack, InHome, InTaken, InRest, at_}
 use Rattle.epoch_laws.specs.Links.{IsLink}
 use Rattle.epoch_laws.specs.Paths.{IsPath, led_to, top_at, first_of, list_at}
@@ -17,7 +15,6 @@ use Rattle.epoch_laws.proofs.Lists.{among_here, among_more}
 use Rattle.epoch_laws.proofs.Paths.{led_to_some, top_at_some, path_first}
 use Rattle.epoch_laws.proofs.KeepsReclaims.{walk_path}
 use Rattle.epoch_laws.proofs.KeepsHomes.{taken_path}
-use Rattle.epoch_laws.proofs.KeepsStacks.{pop_path}
 
 -- the first object of a path is among those that it leads over
 path_begins : (link : Place → Option Place) (p : Place) (xs : List Place) → IsPath link (Some p) xs → is_among p xs ≡ true
@@ -82,10 +79,13 @@ module _ (s : State) (m : Map) (sound : IsSound s m) where
       (λ h. inl h.0)
       (subst (λ k. links_at k p) (first_at (at_ InTaken c) p path.0 path.1) (sound.linked.links p))
 
-  -- where the object is that a won pop takes, that which is walked over in a taken home chain, and that which is in a collected one
-  pub popped_at : (c : ℕ) → AllMet ((stack_pop s c).needs) → same_head (s.words.free_head (s.seat c).stack.locale) (s.seat c).stack.head ≡ true
-      → m.loc (looked_top (s.seat c).stack) ≡ at_ InStack (s.seat c).stack.locale
-  popped_at c h won = let path = pop_path s m sound c h won in first_at (at_ InStack (s.seat c).stack.locale) (looked_top (s.seat c).stack) path.0 path.1
+  -- where the object is that is on top of a stack, that which is walked over in a taken home chain, and that which is in a collected one
+  pub top_in_stack : (l : ℕ) → l < s.shape.locales → (s.words.free_head l).index ≢ 0 → m.loc (record { locale = l; index = (s.words.free_head l).index }) ≡ at_ InStack l
+  unfolding first_of
+  top_in_stack l low some =
+      let p : Place = record { locale = l; index = (s.words.free_head l).index } in
+      let path = path_first m.link p (m.content (at_ InStack l)) (subst (λ x. IsPath m.link x (m.content (at_ InStack l))) (top_at_some l (s.words.free_head l).index some) (sound.paths (at_ InStack l) (refl, low))) in
+      first_at (at_ InStack l) p path.0 path.1
 
   pub taken_at : (is_shape : IsShape s.shape) (c : ℕ) → (s.seat c).homing.chain ≢ 0 → m.loc (place_in (s.seat c).homing.chain) ≡ at_ InTaken c
   taken_at is_shape c some = let path = taken_path s m sound is_shape c some in first_at (at_ InTaken c) (place_in (s.seat c).homing.chain) path.0 path.1

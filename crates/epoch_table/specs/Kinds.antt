@@ -1,5 +1,5 @@
 -- The kinds of step of the machine on a table: from which seat, on which word, and what each tells.
-use Rattle.std.specs.Prelude.{◌≡◌, ◌⊎◌, ◌≤◌, ℕ, true, false, List, [], ◌∷◌, ◌++◌, map, Some}
+use Rattle.std.specs.Prelude.{◌≡◌, ◌≢◌, ◌⊎◌, ◌≤◌, ℕ, false, List, [], ◌∷◌, ◌++◌, map, Some}
 use Rattle.atomic_table.specs.Table.{Me}
 use Rattle.pass_book.specs.declared.entries.Entry.{Entry}
 use Rattle.pass_book.specs.declared.entries.Look.{Look}
@@ -24,12 +24,11 @@ use Rattle.pool_core.specs.FreeWords.{free_index}
 use Rattle.epoch_table.specs.Events.{PastOpens, PastSteps}
 use Rattle.epoch_table.specs.Facts.{Facts, Keeps, IsNew, count_of, facts_after}
 use Rattle.epoch_table.specs.Heads.{won_after, Causes}
-use Rattle.epoch_table.specs.Numbers.{header_in, head_in}
+use Rattle.epoch_table.specs.Numbers.{header_in}
 use Rattle.epoch_table.specs.Knowledge.{tells, Row}
 use Rattle.epoch_table.specs.Clients.{ClientTerms, Takes, Shows, Returns, Defers, Frees}
 use Rattle.epoch_laws.specs.Seats.{Seat}
 use Rattle.epoch_laws.specs.States.{State}
-use Rattle.epoch_laws.specs.StackSteps.{looked_top, same_head}
 use Rattle.epoch_laws.specs.TakeSteps.{look_count}
 use Rattle.pool_core.specs.Headers.{header_word}
 use Rattle.pool_core.specs.declared.headers.State.TheVariants.{Free}
@@ -109,10 +108,10 @@ Learns shape seat facts (TakeTry locale index) found = found ≡ header_word (lo
 Learns shape seat facts PinLook found = found ≤ last_epoch
 Learns shape seat facts (DeferLook pointer) found = found ≤ last_epoch
 Learns shape seat facts EpochLook found = found ≤ last_epoch
-Learns shape seat facts (StackLook locale) found = free_index found ≤ shape.objects
+Learns shape seat facts (StackLook locale) found =
+    (free_index found ≤ shape.objects) × (free_index found ≢ 0 → IsNew seat (record { locale = locale; index = free_index found }))
 Learns shape seat facts Collect found = IsChainWord shape found
 Learns shape seat facts Walk found = IsChainWord shape found × IsNew seat (place_in seat.reclaim.chain)
-Learns shape seat facts StackPop found = same_head (head_in found) seat.stack.head ≡ true → IsNew seat (looked_top seat.stack)
 Learns shape seat facts (HomeTake locale) found = IsChainWord shape found
 Learns shape seat facts HomeWalk found = ((found ≡ pending) ⊎ IsChainWord shape found) × IsNew seat (place_in seat.homing.chain)
 Learns shape seat facts _ found = Unit {0}
