@@ -472,7 +472,7 @@ module _ (s : State) (m : Map) (sound : IsSound s m) (current : HasCounts s m.lo
       record { rest = was.rest; taken = current.home_heads l; list_old = was.list_old; home_old = was.home_old; tail = was.tail; deferral = was.deferral } in
       home_changes s.shape counts (loc_moved (m.content (at_ InHome l)) (at_ InTaken c) m.loc) s.words.list_head s.words.home_head s.words.next _
       (places_go s.shape counts m.loc s.words.list_head s.words.home_head s.words.next _
-      (seat_changes s.shape counts m.loc s.words.list_head s.words.home_head s.words.next s.seat current c (record seat { homing = homing }) mine (λ v x. inl x)
+      (chain_changes s.shape counts m.loc s.words.list_head s.words.home_head s.words.next s.seat current c (record seat { homing = homing }) mine (λ v x. inl x)
       (λ p inside kind first. absurd (none_taken h.1.1.0.1 p inside kind first)))
       (m.content (at_ InHome l)) (at_ InTaken c) (λ ne. refl)
       (λ p x inside.

@@ -12,6 +12,7 @@ use Rattle.epoch_laws.specs.ChainWords.{IsChainWord}
 use Rattle.epoch_laws.specs.Places.{Place, place_in, pending, is_among}
 use Rattle.epoch_laws.specs.Seats.{Seat, Advanced}
 use Rattle.epoch_laws.specs.States.{State}
+use Rattle.epoch_laws.specs.Counts.{HasCounts}
 use Rattle.epoch_laws.specs.Holds.{AreHeld}
 use Rattle.epoch_laws.specs.Locations.{Kind as LocationKind, InStack, InTaken, InHand, IsOwned, InRest, Location, at_}
 use Rattle.epoch_laws.specs.Sound.{Fits, Map, IsSound, state_of}
@@ -21,13 +22,14 @@ use Rattle.epoch_laws.specs.ReclaimSteps.{walk}
 use Rattle.epoch_laws.specs.StackSteps.{stack_look}
 use Rattle.epoch_laws.specs.HomeSteps.{home_walk}
 use Rattle.epoch_laws.specs.Steps.{move}
-use Rattle.epoch_laws.proofs.ChainWords.{stack_top, list_word, home_word, walked_word, taken_word, top_in_stack, taken_at, walked_from}
+use Rattle.epoch_laws.proofs.ChainWords.{stack_top, list_word, home_word, walked_word, taken_word, top_in_stack, taken_at, walked_from, home_local, taken_local}
 use Rattle.epoch_table.specs.Deeds.{deed}
 use Rattle.epoch_table.specs.Facts.{Facts, AreFacts, IsNew}
 use Rattle.epoch_table.specs.Knowledge.{Finds}
 use Rattle.epoch_table.specs.Rule.{AreSmall, AreLow}
 use Rattle.epoch_table.specs.Kinds.{Succeeds, Learns}
 use Rattle.epoch_table.proofs.Knowledge.{header_found}
+use Rattle.epoch_table.proofs.Scenes.{hand_fits}
 
 -- what of a row tells of the word: the locale of a look at a stack is one of the shape's, and the chain that is walked over isn't at its end
 abbrev pub Within : ℕ → Seat → Kind → Type 0
@@ -118,7 +120,7 @@ module _ (s : State) (m : Map) (sound : IsSound s m) (held : AreHeld s) (c : ℕ
       new_at _ (at_ InTaken c) is (λ e. absurd (cc e)) (λ e. absurd (cc e)) (not_shown _ (at_ InTaken c) is (λ e. absurd (cc e)))
   newly is_shape _ h = tt
 
-module _ (s : State) (m : Map) (sound : IsSound s m) (is_shape : IsShape s.shape) (small : AreSmall s) (low : AreLow s) (held : AreHeld s) (c : ℕ) (facts : Facts) (known : AreFacts s.words (s.seat c) facts) (found : ℕ) where
+module _ (s : State) (m : Map) (sound : IsSound s m) (is_shape : IsShape s.shape) (small : AreSmall s) (low : AreLow s) (held : AreHeld s) (current : HasCounts s m.loc) (c : ℕ) (facts : Facts) (known : AreFacts s.words (s.seat c) facts) (found : ℕ) where
   pub learns : (k : Kind) → Within s.shape.locales (s.seat c) k → Newly s m sound held c k → Succeeds k s c → Finds s.words (deed (s.seat c) k) found → Learns s.shape (s.seat c) facts k found
   learns (Register l n) within new succeeds finds = tt
   learns Unregister within new succeeds finds = tt
@@ -126,7 +128,12 @@ module _ (s : State) (m : Map) (sound : IsSound s m) (is_shape : IsShape s.shape
   learns PinSet within new succeeds finds = tt
   learns Unpin within new succeeds finds = tt
   learns (TakeLook l i) within new succeeds finds =
-      let p : Place = record { locale = l; index = i } in λ n has is. ap (λ h. h.count) (sym (header_found (s.words.header p) found finds)) ∙ known.count p n has is
+      let p : Place = record { locale = l; index = i } in (
+        λ n has is. ap (λ h. h.count) (sym (header_found (s.words.header p) found finds)) ∙ known.count p n has is,
+        λ among.
+            let fits = hand_fits s m sound c p among in
+            ((s.words.header p).count, fits.bound, sym finds ∙ ap (λ x. header_word (s.words.header p).count x) fits.state),
+      )
   learns (TakeTry l i) within new succeeds finds = sym finds ∙ ap (λ h. header_word h.count h.state) succeeds
   learns (Show q) within new succeeds finds = tt
   learns (Hold q) within new succeeds finds = tt
@@ -157,5 +164,10 @@ module _ (s : State) (m : Map) (sound : IsSound s m) (is_shape : IsShape s.shape
   learns (HandLink q word) within new succeeds finds = tt
   learns (HomeSwap top tail) within new succeeds finds = tt
   learns HomeLink within new succeeds finds = tt
-  learns (HomeTake l) within new succeeds finds = subst (IsChainWord s.shape) finds (home_word s m sound l)
-  learns HomeWalk within new succeeds finds = (subst (λ w. (w ≡ pending) ⊎ IsChainWord s.shape w) finds (taken_word s m sound is_shape c within), new)
+  learns (HomeTake l) within new succeeds finds =
+      (subst (IsChainWord s.shape) finds (home_word s m sound l), λ some. subst (λ w. w ≢ 0 → (place_in w).locale ≡ l) finds (home_local s m sound current l) some)
+  learns HomeWalk within new succeeds finds = (
+    subst (λ w. (w ≡ pending) ⊎ IsChainWord s.shape w) finds (taken_word s m sound is_shape c within),
+    new,
+    subst (λ w. w ≢ pending → w ≢ 0 → (place_in w).locale ≡ (place_in (s.seat c).homing.chain).locale) finds (taken_local s m sound is_shape current c within),
+  )
