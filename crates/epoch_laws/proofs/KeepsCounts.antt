@@ -2,6 +2,7 @@
 use Rattle.std.proofs.Common.{◌≡◌, ◌≢◌, ◌==◌, ◌%◌, ℕ, ◌+◌, true, false, ltb, List, [], ◌∷◌, length, Some, None, refl, ap, sym, ◌∙◌, subst, inl, inr, ⊎_elim}
 use mathlib.Core.Path.{fun_ext}
 use Rattle.std.proofs.lemmas.Bool.{eqb-true, and_parts}
+use Rattle.std.proofs.lemmas.Bool.Decides.{eqb_tells}
 use Rattle.pgas_base.specs.declared.shapes.Shape.{Shape}
 use Rattle.pgas_base.specs.declared.starts.Start.{Start}
 use Rattle.pgas_base.specs.Shapes.{IsShape}
@@ -20,17 +21,17 @@ use Rattle.epoch_laws.specs.ReclaimSteps.{elect_local, elect_global, epoch_look,
 use Rattle.epoch_laws.specs.StackSteps.{stack_look, stack_next, stack_pop, stack_put, hand_link, same_head}
 use Rattle.epoch_laws.specs.HomeSteps.{home_swap, home_link, home_take, home_walk, with_link}
 use Rattle.epoch_laws.proofs.Updates.{number_here, place_here, at_place, same_place_tells}
-use Rattle.epoch_laws.proofs.Lists.{truth, among_here, among_one}
-use Rattle.epoch_laws.proofs.Locations.{InStack, InHome, InTaken, InHand, IsOwned, IsLive, InDeferral, InRest, IsWalked, Location, at_, loc_moved}
-use Rattle.epoch_laws.proofs.Paths.{list_at}
-use Rattle.epoch_laws.proofs.Links.{Wait}
+use Rattle.epoch_laws.proofs.Lists.{truth, among_nil, among_here, among_more, among_cons, among_one}
+use Rattle.epoch_laws.proofs.Locations.{Kind, InStack, InHome, InTaken, InHand, IsOwned, IsLive, InDeferral, InList, InRest, IsWalked, Location, at_, loc_moved, at_moved}
+use Rattle.epoch_laws.proofs.Paths.{IsPath, led_to, led_to_some, first_of, list_at}
+use Rattle.epoch_laws.proofs.Links.{Wait, IsLink}
 use Rattle.epoch_laws.proofs.Ages.{Deferring}
 use Rattle.epoch_laws.proofs.Sound.{plain, phased, phased_at, home_wait, home_wait_at, Map, IsSound}
 use Rattle.epoch_laws.proofs.KeepsReclaims.{collected_list, collect_unwaited, walked_place, walk_path}
 use Rattle.epoch_laws.proofs.KeepsStacks.{popped, put_way}
 use Rattle.epoch_laws.proofs.KeepsHomes.{taken_place, taken_path, swap_way}
 use Rattle.epoch_laws.proofs.Segments.{IsSegment, led_segment, among_without, gone_without}
-use Rattle.epoch_laws.proofs.Counts.{IsCurrent, IsNextCurrent, IsSeatCurrent, AreCurrent, HasCounts, next_of_list, next_of_home, list_changes, home_changes, next_changes, places_go, seat_changes, seat_stays}
+use Rattle.epoch_laws.proofs.Counts.{IsCurrent, IsNextCurrent, IsLocal, IsSeatCurrent, AreCurrent, HasCounts, next_of_list, next_of_home, list_changes, home_changes, next_changes, places_go, chain_changes, seat_changes, seat_stays}
 
 module _ (s : State) (m : Map) (sound : IsSound s m) (current : HasCounts s m.loc) (c : ℕ) where
   abbrev counts : Place → ℕ
@@ -50,14 +51,14 @@ module _ (s : State) (m : Map) (sound : IsSound s m) (current : HasCounts s m.lo
 
   -- the same, where objects go to a location that is none of a list, home or taken chain or rest
   goes : (new : Seat) (moved : List Place) (b : Location) → phased new ≡ phased (s.seat c) → new.homing ≡ (s.seat c).homing → b.second ≡ 0
-      → ((p : Place) → IsNextCurrent s.shape counts s.words.next (λ d. (phased (with_number s.seat c new d)).list_wait) b.kind p)
+      → ((p : Place) → IsNextCurrent s.shape counts s.words.next (λ d. (phased (with_number s.seat c new d)).list_wait) b.kind p × IsLocal (with_number s.seat c new) b.kind b.first p)
       → AreCurrent s.shape counts (loc_moved moved b m.loc) s.words.list_head s.words.home_head s.words.next (with_number s.seat c new)
   goes new moved b e f flat here =
-      places_go s.shape counts m.loc s.words.list_head s.words.home_head s.words.next (with_number s.seat c new) (stays new e f) moved b (λ ne. flat) (λ p h inside. here p)
+      places_go s.shape counts m.loc s.words.list_head s.words.home_head s.words.next (with_number s.seat c new) (stays new e f) moved b (λ ne. flat) (λ p h inside. (here p).0) (λ p h inside. (here p).1)
 
   -- the same of one object, whose header changes and keeps its count
   goes_with : (q : Place) (head : Header) (new : Seat) (b : Location) → head.count ≡ counts q → phased new ≡ phased (s.seat c) → new.homing ≡ (s.seat c).homing → b.second ≡ 0
-      → ((p : Place) → IsNextCurrent s.shape counts s.words.next (λ d. (phased (with_number s.seat c new d)).list_wait) b.kind p)
+      → ((p : Place) → IsNextCurrent s.shape counts s.words.next (λ d. (phased (with_number s.seat c new d)).list_wait) b.kind p × IsLocal (with_number s.seat c new) b.kind b.first p)
       → AreCurrent s.shape (λ p. (with_place s.words.header q head p).count) (loc_moved (q ∷ []) b m.loc) s.words.list_head s.words.home_head s.words.next (with_number s.seat c new)
   goes_with q head new b count e f flat here =
       subst (λ (k : Place → ℕ). AreCurrent s.shape k (loc_moved (q ∷ []) b m.loc) s.words.list_head s.words.home_head s.words.next (with_number s.seat c new)) (sym (same_counts q head count))
@@ -93,7 +94,7 @@ module _ (s : State) (m : Map) (sound : IsSound s m) (current : HasCounts s m.lo
   counts_take_try p won =
       let n = look_count (s.seat c).free_look in
       let e : counts p ≡ n = eqb-true (counts p) n (and_parts (is_free (s.words.header p).state) (counts p == n) won).1 in
-      rw won (goes_with p _ _ (at_ IsOwned c) (sym e) refl refl refl (λ q. tt))
+      rw won (goes_with p _ _ (at_ IsOwned c) (sym e) refl refl refl (λ q. (tt, tt)))
 
   pub counts_take_lost : (p : Place) → is_free_with (s.words.header p) (look_count (s.seat c).free_look) ≡ false → HasCounts ((take_try s c p).outcome.next) m.loc
   unfolding take_try
@@ -101,11 +102,11 @@ module _ (s : State) (m : Map) (sound : IsSound s m) (current : HasCounts s m.lo
 
   pub counts_show : (q : Pointer) → AllMet ((show s c q).needs) → HasCounts ((show s c q).outcome.next) (loc_moved (place_of q ∷ []) (at_ IsLive 0) m.loc)
   unfolding show
-  counts_show q h = goes_with (place_of q) _ _ (at_ IsLive 0) (sym h.1.1.1.0) refl refl refl (λ p. tt)
+  counts_show q h = goes_with (place_of q) _ _ (at_ IsLive 0) (sym h.1.1.1.0) refl refl refl (λ p. (tt, tt))
 
   pub counts_give_back : (q : Pointer) → AllMet ((give_back s c q).needs) → HasCounts ((give_back s c q).outcome.next) (loc_moved (place_of q ∷ []) (at_ InHand c) m.loc)
   unfolding give_back
-  counts_give_back q h = goes_with (place_of q) _ _ (at_ InHand c) (sym h.1.1.1.0) refl refl refl (λ p. tt)
+  counts_give_back q h = goes_with (place_of q) _ _ (at_ InHand c) (sym h.1.1.1.0) refl refl refl (λ p. (tt, tt))
 
   pub counts_hold : (q : Pointer) → HasCounts ((hold s c q).outcome.next) m.loc
   unfolding hold
@@ -134,8 +135,8 @@ module _ (s : State) (m : Map) (sound : IsSound s m) (current : HasCounts s m.lo
             subst (λ y. y.count ≡ counts y.place) same (sym (ap (λ y. y.count) h.1.1.1.0));
       } in
       places_go s.shape counts m.loc s.words.list_head s.words.home_head s.words.next (with_number s.seat c new)
-      (seat_changes s.shape counts m.loc s.words.list_head s.words.home_head s.words.next s.seat current c new mine (λ w e. absurd (cc (e, sym (ap (λ y. y.list_wait) (of_phase Pinned h.1.1.0))))))
-      (place_of q ∷ []) (at_ InDeferral c) (λ ne. refl) (λ p x inside. tt)
+      (seat_changes s.shape counts m.loc s.words.list_head s.words.home_head s.words.next s.seat current c new mine (λ w e. absurd (cc (e, sym (ap (λ y. y.list_wait) (of_phase Pinned h.1.1.0))))) refl)
+      (place_of q ∷ []) (at_ InDeferral c) (λ ne. refl) (λ p x inside. tt) (λ p x inside. tt)
 
   -- the pointer goes into the head, and the old head is to be stored
   pub counts_defer_swap : AllMet ((defer_swap s c).needs)
@@ -166,8 +167,8 @@ module _ (s : State) (m : Map) (sound : IsSound s m) (current : HasCounts s m.lo
       } in
       list_changes s.shape counts (loc_moved (p ∷ []) (list_at l n) m.loc) s.words.list_head s.words.home_head s.words.next (with_number s.seat c new)
       (places_go s.shape counts m.loc s.words.list_head s.words.home_head s.words.next (with_number s.seat c new)
-      (seat_changes s.shape counts m.loc s.words.list_head s.words.home_head s.words.next s.seat current c new mine (λ v e. absurd (cc (e, sym (ap (λ y. y.list_wait) part)))))
-      (p ∷ []) (list_at l n) (λ ne. absurd (ne refl)) (λ r x is. inl (c, w, ap (λ y. (phased y).list_wait) (number_here s.seat c new), sym (among_one r p x))))
+      (seat_changes s.shape counts m.loc s.words.list_head s.words.home_head s.words.next s.seat current c new mine (λ v e. absurd (cc (e, sym (ap (λ y. y.list_wait) part)))) refl)
+      (p ∷ []) (list_at l n) (λ ne. absurd (ne refl)) (λ r x is. inl (c, w, ap (λ y. (phased y).list_wait) (number_here s.seat c new), sym (among_one r p x))) (λ r x is. tt))
       l n (word_of q) (inr (p, inside, ap (λ k. word_of (pointer_at p k)) count))
 
   -- the old head is stored
@@ -190,6 +191,7 @@ module _ (s : State) (m : Map) (sound : IsSound s m) (current : HasCounts s m.lo
       (next_of_list s.shape counts next' (λ d. (phased (s.seat d)).list_wait) p ((m.loc p).kind) (sound.linked.list_waits c w waits).in_list stored))
       c new mine
       (λ v e. inr (let same : w ≡ v = cc (waits, e) in subst (λ y. IsCurrent s.shape counts (next' y.place)) same stored))
+      refl
 
   pub counts_elect_local : AllMet ((elect_local s c).needs) → HasCounts ((elect_local s c).outcome.next) m.loc
   unfolding elect_local phased_at
@@ -223,6 +225,7 @@ module _ (s : State) (m : Map) (sound : IsSound s m) (current : HasCounts s m.lo
       seat_changes s.shape counts m.loc s.words.list_head s.words.home_head s.words.next s.seat current c new
       (record { rest = inl refl; taken = was.taken; list_old = λ v e. absurd (cc e); home_old = was.home_old; tail = was.tail; deferral = λ x e. absurd (cc e) })
       (λ w e. absurd (cc (e, sym (ap (λ y. y.list_wait) (of_phase Scanning h.1.0.0)))))
+      refl
 
   pub counts_leave : AllMet ((leave s c).needs) → HasCounts ((leave s c).outcome.next) m.loc
   unfolding leave has_global phased_at
@@ -238,6 +241,7 @@ module _ (s : State) (m : Map) (sound : IsSound s m) (current : HasCounts s m.lo
           (subst (IsSeatCurrent s.shape counts plain) (sym f)
           (record { rest = inl refl; taken = was.taken; list_old = λ v x. absurd (cc x); home_old = was.home_old; tail = was.tail; deferral = λ x y. absurd (cc y) })))
           (λ w x. absurd (cc (x, none)))
+          (ap (λ x. x.chain) f)
 
       none_at : (ph : Phase) → (s.seat c).phase ≡ ph → (phased_at ph (s.seat c).deferral (s.seat c).token (s.seat c).reclaim).list_wait ≡ None → (phased (s.seat c)).list_wait ≡ None
       none_at ph at e = sym (ap (λ x. x.list_wait) (of_phase ph at)) ∙ e
@@ -273,6 +277,7 @@ module _ (s : State) (m : Map) (sound : IsSound s m) (current : HasCounts s m.lo
       (subst (IsSeatCurrent s.shape counts (phased_at Advanced (s.seat c).deferral (s.seat c).token r)) (sym f)
       (record { rest = h; taken = was.taken; list_old = λ v x. absurd (cc x); home_old = was.home_old; tail = was.tail; deferral = λ x y. absurd (cc y) })))
       (λ w x. absurd (cc (x, sym (ap (λ y. y.list_wait) (of_phase Advanced at)))))
+      (ap (λ x. x.chain) f)
 
   pub counts_spread : AllMet ((spread s c).needs) → HasCounts ((spread s c).outcome.next) m.loc
   unfolding spread phased_at
@@ -292,7 +297,8 @@ module _ (s : State) (m : Map) (sound : IsSound s m) (current : HasCounts s m.lo
       (m.content a) (at_ InRest c) (λ ne. refl)
       (λ p x inside.
       ⊎_elim (λ w. absurd (collect_unwaited s m sound c h.1.0.0 p x w.0 w.1 w.2 w.3)) (λ y. y)
-      (subst (λ k. IsNextCurrent s.shape counts s.words.next (λ d. (phased (s.seat d)).list_wait) k.kind p) ((sound.listed a).all p x).0 (current.nexts p inside))))
+      (subst (λ k. IsNextCurrent s.shape counts s.words.next (λ d. (phased (s.seat d)).list_wait) k.kind p) ((sound.listed a).all p x).0 (current.nexts p inside)))
+      (λ p x inside. tt))
       r.collected ((r.epoch + 2) % 4) 0 (inl refl)
 
   -- the next word of the walked object is the rest
@@ -308,7 +314,7 @@ module _ (s : State) (m : Map) (sound : IsSound s m) (current : HasCounts s m.lo
       subst (λ k. IsNextCurrent s.shape counts s.words.next (λ d. (phased (s.seat d)).list_wait) k.kind p) at.0 (current.nexts p at.1) in
       places_go s.shape counts m.loc s.words.list_head s.words.home_head s.words.next (with_number s.seat c new)
       (collects_on new new.reclaim h.1.0.0 (goes_on new.reclaim h.1.0.0) refl next)
-      (p ∷ []) (at_ IsWalked c) (λ ne. refl) (λ q x inside. tt)
+      (p ∷ []) (at_ IsWalked c) (λ ne. refl) (λ q x inside. tt) (λ q x inside. tt)
 
   pub counts_stack_look : (l : ℕ) → HasCounts ((stack_look s c l).outcome.next) m.loc
   unfolding stack_look
@@ -320,7 +326,7 @@ module _ (s : State) (m : Map) (sound : IsSound s m) (current : HasCounts s m.lo
 
   pub counts_stack_pop : same_head (s.words.free_head (s.seat c).stack.locale) (s.seat c).stack.head ≡ true → HasCounts ((stack_pop s c).outcome.next) (loc_moved (popped s m sound c ∷ []) (at_ InHand c) m.loc)
   unfolding stack_pop
-  counts_stack_pop won = rw won (goes _ (popped s m sound c ∷ []) (at_ InHand c) refl refl refl (λ p. tt))
+  counts_stack_pop won = rw won (goes _ (popped s m sound c ∷ []) (at_ InHand c) refl refl refl (λ p. (tt, tt)))
 
   pub counts_pop_lost : same_head (s.words.free_head (s.seat c).stack.locale) (s.seat c).stack.head ≡ false → HasCounts ((stack_pop s c).outcome.next) m.loc
   unfolding stack_pop
@@ -329,7 +335,7 @@ module _ (s : State) (m : Map) (sound : IsSound s m) (current : HasCounts s m.lo
   pub counts_stack_put : (top tail : Pointer) → same_head (s.words.free_head (s.seat c).stack.locale) (s.seat c).stack.head ≡ true
       → HasCounts ((stack_put s c top tail).outcome.next) (loc_moved (led_over (put_way s m sound c top tail)) (at_ InStack (s.seat c).stack.locale) m.loc)
   unfolding stack_put
-  counts_stack_put top tail won = rw won (goes _ (led_over (put_way s m sound c top tail)) (at_ InStack (s.seat c).stack.locale) refl refl refl (λ p. tt))
+  counts_stack_put top tail won = rw won (goes _ (led_over (put_way s m sound c top tail)) (at_ InStack (s.seat c).stack.locale) refl refl refl (λ p. (tt, tt)))
 
   pub counts_put_lost : (top tail : Pointer) → same_head (s.words.free_head (s.seat c).stack.locale) (s.seat c).stack.head ≡ false → HasCounts ((stack_put s c top tail).outcome.next) m.loc
   unfolding stack_put
@@ -375,13 +381,14 @@ module _ (s : State) (m : Map) (sound : IsSound s m) (current : HasCounts s m.lo
         } in
         home_changes s.shape counts (loc_moved xs (at_ InHome l) m.loc) s.words.list_head s.words.home_head s.words.next _
         (places_go s.shape counts m.loc s.words.list_head s.words.home_head s.words.next _
-        (seat_changes s.shape counts m.loc s.words.list_head s.words.home_head s.words.next s.seat current c _ mine (λ v e. inl e))
+        (seat_changes s.shape counts m.loc s.words.list_head s.words.home_head s.words.next s.seat current c _ mine (λ v e. inl e) refl)
         xs (at_ InHome l) (λ ne. refl)
         (λ q x is.
         ⊎_elim
         (λ y. inl (ap s.words.next y.1 ∙ eqb-true _ _ seg.last))
         (λ y. let ne = y.1 in let i = seg.inner q x ne in inr (inr (place_in (s.words.next q), inside (place_in (s.words.next q)) i.0, i.2)))
-        (same_place_tells q t)))
+        (same_place_tells q t))
+        (λ q x is. ⊎_elim (λ e. ap (λ r. r.locale) e) (λ e. e) (seg.locales q x)))
         l (word_of top) (inr (p, h.1.0, ap (λ k. word_of (pointer_at p k)) (sym h.1.1.1.1.0)))
 
   -- the old home head is stored
@@ -403,12 +410,60 @@ module _ (s : State) (m : Map) (sound : IsSound s m) (current : HasCounts s m.lo
       (next_changes s.shape counts m.loc s.words.list_head s.words.home_head s.words.next s.seat current p seat.homing.old
       (next_of_home s.shape counts next' (λ d. (phased (s.seat d)).list_wait) p ((m.loc p).kind) (sound.linked.home_waits c w waits).at_home
       (subst (IsCurrent s.shape counts) (sym (place_here s.words.next p seat.homing.old)) (was.home_old w waits))))
-      c new mine (λ v x. inl x))
+      c new mine (λ v x. inl x) refl)
+
+  abbrev locale_at : (k : Kind) (i : ℕ) (p : Place) → Type 0
+  locale_at k i p = IsLocal s.seat k i p
+
+  local_of : (k : Kind) (i : ℕ) (p : Place) → IsPlace s.shape p → m.loc p ≡ at_ k i → locale_at k i p
+  local_of k i p inside at = subst (λ (y : Location). locale_at y.kind y.first p) at (current.locals p inside)
+
+  at_of : (k : Kind) (i : ℕ) (p : Place) → k ≢ InList → (m.loc p).kind ≡ k → (m.loc p).first ≡ i → m.loc p ≡ at_ k i
+  at_of k i p ne kind first = let flat : (m.loc p).second ≡ 0 = current.flat p (λ e. ne (sym kind ∙ e)) in λ t. record { kind = kind t; first = first t; second = flat t }
+
+  -- where no chain is taken there is no object of one
+  none_taken : (s.seat c).homing.chain ≡ 0 → (p : Place) → IsPlace s.shape p → (m.loc p).kind ≡ InTaken → (m.loc p).first ≡ c → ⊥
+  unfolding first_of led_to
+  none_taken none p inside kind first =
+      let among = (sound.listed (at_ InTaken c)).each p (at_of InTaken c p (λ e. absurd (cc e)) kind first) inside in
+      go (m.content (at_ InTaken c)) (subst (λ w. IsPath m.link (led_to w) (m.content (at_ InTaken c))) none (sound.paths (at_ InTaken c) refl)) among
+    where
+      go : (xs : List Place) → IsPath m.link None xs → is_among p xs ≡ true → ⊥
+      go [] path among = among_nil p among
+      go (q ∷ xs) path among = absurd (cc path.0)
+
+  -- where a chain leads over these objects, its word leads to one of them
+  begins : (word : ℕ) (xs : List Place) (p : Place) → IsPath m.link (led_to word) xs → is_among p xs ≡ true → is_among (place_in word) xs ≡ true
+  unfolding led_to
+  begins word [] p path among = absurd (among_nil p among)
+  begins word (q ∷ xs) p path among =
+      ⊎_elim
+      (λ e. absurd (cc (sym path.0, ap (λ w. led_to w) e.1)))
+      (λ e. let ne = e.1 in let same : place_in word ≡ q = cc (sym (led_to_some word ne) ∙ path.0) in subst (λ x. is_among x (q ∷ xs) ≡ true) (sym same) (among_here q xs))
+      (eqb_tells word 0)
+
+  -- the objects of a home chain are of the locale of its first one
+  home_one : (l : ℕ) (p : Place) → is_among p (m.content (at_ InHome l)) ≡ true → p.locale ≡ (place_in (s.words.home_head l)).locale
+  unfolding first_of
+  home_one l p among =
+      let listed = sound.listed (at_ InHome l) in
+      let head = place_in (s.words.home_head l) in
+      let first = listed.all head (begins (s.words.home_head l) (m.content (at_ InHome l)) p (sound.paths (at_ InHome l) refl) among) in
+      let this = listed.all p among in
+      local_of InHome l p this.1 this.0 ∙ sym (local_of InHome l head first.1 first.0)
+
+  -- and those that are left of a taken chain of that of the next one
+  taken_one : (rest : List Place) (first : Place) (word : ℕ) → m.content (at_ InTaken c) ≡ first ∷ rest → IsPath m.link (led_to word) rest → (p : Place) → is_among p rest ≡ true → p.locale ≡ (place_in word).locale
+  taken_one rest first word is path p among =
+      let listed = sound.listed (at_ InTaken c) in
+      let of : (q : Place) → is_among q rest ≡ true → q.locale ≡ (place_in (s.seat c).homing.chain).locale =
+      λ q x. (let one = listed.all q (subst (λ l. is_among q l ≡ true) (sym is) (among_more q first rest x)) in local_of InTaken c q one.1 one.0) in
+      of p among ∙ sym (of (place_in word) (begins word rest p path among))
 
   -- the home head is the taken chain
-  pub counts_home_take : (l : ℕ) → HasCounts ((home_take s c l).outcome.next) (loc_moved (m.content (at_ InHome l)) (at_ InTaken c) m.loc)
-  unfolding home_take
-  counts_home_take l =
+  pub counts_home_take : (l : ℕ) → AllMet ((home_take s c l).needs) → HasCounts ((home_take s c l).outcome.next) (loc_moved (m.content (at_ InHome l)) (at_ InTaken c) m.loc)
+  unfolding home_take first_of
+  counts_home_take l h =
       let seat = s.seat c in
       let read = s.words.home_head l in
       let homing : Homing = record seat.homing { chain = read } in
@@ -417,10 +472,14 @@ module _ (s : State) (m : Map) (sound : IsSound s m) (current : HasCounts s m.lo
       record { rest = was.rest; taken = current.home_heads l; list_old = was.list_old; home_old = was.home_old; tail = was.tail; deferral = was.deferral } in
       home_changes s.shape counts (loc_moved (m.content (at_ InHome l)) (at_ InTaken c) m.loc) s.words.list_head s.words.home_head s.words.next _
       (places_go s.shape counts m.loc s.words.list_head s.words.home_head s.words.next _
-      (seat_changes s.shape counts m.loc s.words.list_head s.words.home_head s.words.next s.seat current c (record seat { homing = homing }) mine (λ v x. inl x))
+      (chain_changes s.shape counts m.loc s.words.list_head s.words.home_head s.words.next s.seat current c (record seat { homing = homing }) mine (λ v x. inl x)
+      (λ p inside kind first. absurd (none_taken h.1.1.0.1 p inside kind first)))
       (m.content (at_ InHome l)) (at_ InTaken c) (λ ne. refl)
       (λ p x inside.
-      subst (λ k. IsNextCurrent s.shape counts s.words.next (λ d. (phased (s.seat d)).list_wait) k.kind p) ((sound.listed (at_ InHome l)).all p x).0 (current.nexts p inside)))
+      subst (λ k. IsNextCurrent s.shape counts s.words.next (λ d. (phased (s.seat d)).list_wait) k.kind p) ((sound.listed (at_ InHome l)).all p x).0 (current.nexts p inside))
+      (λ p x inside.
+      let mine' : (with_number s.seat c (record seat { homing = homing }) c).homing.chain ≡ read = ap (λ y. y.homing.chain) (number_here s.seat c (record seat { homing = homing })) in
+      subst (λ y. p.locale ≡ (place_in y).locale) (sym mine') (home_one l p x)))
       l 0 (inl refl)
 
   -- the next word of the taken object is the rest of the chain
@@ -439,10 +498,23 @@ module _ (s : State) (m : Map) (sound : IsSound s m) (current : HasCounts s m.lo
       let was = current.seats c in
       let mine : IsSeatCurrent s.shape counts (phased seat) homing =
       record { rest = was.rest; taken = next; list_old = was.list_old; home_old = was.home_old; tail = was.tail; deferral = was.deferral } in
+      let new : Seat = record seat { hand = p ∷ seat.hand; homing = homing } in
+      let link : m.link p ≡ led_to (s.words.next p) =
+      ⊎_elim (λ x. x.1) (λ x. absurd (is x.0))
+      (subst (λ y. IsLink s.words.next m.link (λ d. home_wait (s.seat d)) (λ d. (phased (s.seat d)).list_wait) y.kind y.first p) at.0 (sound.linked.links p)) in
+      let left : IsPath m.link (led_to (s.words.next p)) path.0 = subst (λ x. IsPath m.link x path.0) link path.2 in
       rw stored
-      (places_go s.shape counts m.loc s.words.list_head s.words.home_head s.words.next _
-      (seat_changes s.shape counts m.loc s.words.list_head s.words.home_head s.words.next s.seat current c (record seat { hand = p ∷ seat.hand; homing = homing }) mine (λ v x. inl x))
-      (p ∷ []) (at_ InHand c) (λ ne. refl) (λ q x inside. tt))
+      (chain_changes s.shape counts (loc_moved (p ∷ []) (at_ InHand c) m.loc) s.words.list_head s.words.home_head s.words.next s.seat
+      (places_go s.shape counts m.loc s.words.list_head s.words.home_head s.words.next s.seat current (p ∷ []) (at_ InHand c) (λ ne. refl) (λ q x inside. tt) (λ q x inside. tt))
+      c new mine (λ v x. inl x)
+      (at_moved (λ q k. IsPlace s.shape q → k.kind ≡ InTaken → k.first ≡ c → q.locale ≡ (place_in (s.words.next p)).locale) (p ∷ []) (at_ InHand c) m.loc
+      (λ q x inside kind first. absurd (cc kind))
+      (λ q x inside kind first.
+      let here = (sound.listed (at_ InTaken c)).each q (at_of InTaken c q (λ e. absurd (cc e)) kind first) inside in
+      ⊎_elim
+      (λ e. absurd (cc (sym x, subst (λ r. is_among r (p ∷ []) ≡ true) (sym e) (among_here p []))))
+      (λ e. taken_one path.0 p (s.words.next p) path.1 left q e.1)
+      (among_cons q p path.0 (subst (λ l. is_among q l ≡ true) path.1 here)))))
 
   pub counts_home_waits : (s.words.next (place_in ((s.seat c).homing.chain)) == pending) ≡ true → HasCounts ((home_walk s c).outcome.next) m.loc
   unfolding home_walk
@@ -455,5 +527,6 @@ opening_counts shape start seats = record {
   home_heads = λ l. inl refl;
   seats = λ c. record { rest = inl refl; taken = inl refl; list_old = λ w e. absurd (cc e); home_old = λ w e. absurd (cc e); tail = λ w e. absurd (cc e); deferral = λ x e. absurd (cc e) };
   nexts = λ p inside. tt;
+  locals = λ p inside. tt;
   flat = λ p ne. refl;
 }

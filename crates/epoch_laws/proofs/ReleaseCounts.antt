@@ -18,7 +18,7 @@ use Rattle.epoch_laws.proofs.Ages.{Deferring}
 use Rattle.epoch_laws.proofs.Sound.{phased, phased_at, home_wait, Map, firsts_of, IsSound}
 use Rattle.epoch_laws.proofs.Words.{IsSmall, small_in_shape, place_in-word_of, word_not_none}
 use Rattle.epoch_laws.proofs.KeepsReclaims.{wait_deferring, walked_at, walked_deferring, release_map}
-use Rattle.epoch_laws.proofs.Counts.{IsCurrent, IsNextCurrent, IsSeatCurrent, AreCurrent, HasCounts, places_go, seat_stays}
+use Rattle.epoch_laws.proofs.Counts.{IsCurrent, IsNextCurrent, IsLocal, IsSeatCurrent, AreCurrent, HasCounts, places_go, seat_stays}
 
 -- words lead through such locations
 abbrev IsLedKind : Kind → Type 0
@@ -133,6 +133,7 @@ module _ (s : State) (m : Map) (sound : IsSound s m) (current : HasCounts s m.lo
       home_heads = λ l. still (s.words.home_head l) (current.home_heads l) (λ q e. apart (at_ InHome l) tt q (first_at (at_ InHome l) refl q e));
       seats = seat_recounts;
       nexts = λ p inside. next_recounts p inside ((m.loc p).kind) refl (sound.linked.links p) (current.nexts p inside);
+      locals = current.locals;
       flat = current.flat;
     }
 
@@ -149,8 +150,8 @@ module _ (s : State) (m : Map) (sound : IsSound s m) (current : HasCounts s m.lo
   unfolding release
   counts_release q h =
       ⊎_elim
-      (λ z. rw z (leaves (record { count = q.count; state = Worn }) (at_ IsWorn 0) _ refl (same _ refl refl) refl (λ p. tt)))
-      (λ z. rw z (leaves (record { count = q.count + 1; state = Free }) (at_ InHand c) _ refl (same _ refl refl) refl (λ p. tt)))
+      (λ z. rw z (leaves (record { count = q.count; state = Worn }) (at_ IsWorn 0) _ refl (same _ refl refl) refl (λ p. (tt, tt))))
+      (λ z. rw z (leaves (record { count = q.count + 1; state = Free }) (at_ InHand c) _ refl (same _ refl refl) refl (λ p. (tt, tt))))
       (truth (q.count == last_count))
     where
       at : (s.seat c).phase ≡ Advanced
@@ -161,7 +162,7 @@ module _ (s : State) (m : Map) (sound : IsSound s m) (current : HasCounts s m.lo
       same new e f = released new e f at
 
       leaves : (head : Header) (b : Location) (new : Seat) → b.second ≡ 0 → phased new ≡ phased (s.seat c) → new.homing ≡ (s.seat c).homing
-          → ((p : Place) → IsNextCurrent s.shape (λ p. (with_place s.words.header (place_of q) head p).count) s.words.next (λ d. (phased (with_number s.seat c new d)).list_wait) b.kind p)
+          → ((p : Place) → IsNextCurrent s.shape (λ p. (with_place s.words.header (place_of q) head p).count) s.words.next (λ d. (phased (with_number s.seat c new d)).list_wait) b.kind p × IsLocal (with_number s.seat c new) b.kind b.first p)
           → AreCurrent s.shape (λ p. (with_place s.words.header (place_of q) head p).count) (loc_moved (place_of q ∷ []) b m.loc) s.words.list_head s.words.home_head s.words.next (with_number s.seat c new)
       leaves head b new flat e f here =
           let w = walked_at s m sound c (place_of q) at h.1.1.1.1.0 in
@@ -169,4 +170,4 @@ module _ (s : State) (m : Map) (sound : IsSound s m) (current : HasCounts s m.lo
           places_go s.shape count m.loc s.words.list_head s.words.home_head s.words.next (with_number s.seat c new)
           (seat_stays s.shape count m.loc s.words.list_head s.words.home_head s.words.next s.seat
           (recounts (place_of q) head w.0 (λ d x y. walked_deferring s m sound c (place_of q) at h.1.1.1.1.0 d x y)) c new e f)
-          (place_of q ∷ []) b (λ ne. flat) (λ p x inside. here p)
+          (place_of q ∷ []) b (λ ne. flat) (λ p x inside. (here p).0) (λ p x inside. (here p).1)

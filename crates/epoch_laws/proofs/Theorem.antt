@@ -172,7 +172,7 @@ module _ (first count : ℕ) (items : List Item) (s : State) (m : Map) (sound : 
   move_holds (HandLink q word) h = (m, keeps_hand_link s m sound c q word h, tell_hand_link first count items s m sound told c q word, counts_hand_link s m sound current c q word h)
   move_holds (HomeSwap top tail) h = home_swap_holds top tail h
   move_holds HomeLink h = (m, keeps_home_link s m sound is_shape c h, tell_home_link first count items s m sound told c, counts_home_link s m sound current c h)
-  move_holds (HomeTake l) h = (take_map s m sound is_shape c l, keeps_home_take s m sound is_shape c l h, tell_home_take first count items s m sound told c l, counts_home_take s m sound current c l)
+  move_holds (HomeTake l) h = (take_map s m sound is_shape c l, keeps_home_take s m sound is_shape c l h, tell_home_take first count items s m sound told c l, counts_home_take s m sound current c l h)
   move_holds HomeWalk h = home_walk_holds h
 
 -- a seat that collects has advanced

@@ -2,13 +2,19 @@
 use Rattle.std.proofs.Common.{◌≡◌, ◌≢◌, ◌⊎◌, ℕ, Some}
 use Rattle.pgas_base.specs.declared.shapes.Shape.{Shape}
 use Rattle.pgas_base.specs.Pointers.{word_of}
-use Rattle.epoch_laws.specs.Places.{Place, pointer_at, pending}
+use Rattle.epoch_laws.specs.Places.{Place, place_in, pointer_at, pending}
 use Rattle.epoch_laws.specs.Seats.{Homing, Seat}
 use Rattle.epoch_laws.specs.States.{State, IsPlace}
 use Rattle.epoch_laws.specs.Locations.{Kind, InHome, InTaken, InList, InRest, Location}
 use Rattle.epoch_laws.specs.Links.{Wait, Waits}
 use Rattle.epoch_laws.specs.Ages.{Deferring}
 use Rattle.epoch_laws.specs.Sound.{Phased, phased, home_wait_at}
+
+-- An object of a home chain is of its locale, and all of a taken chain are of one
+abbrev pub IsLocal : (ℕ → Seat) → Kind → ℕ → Place → Type 0
+IsLocal seat InHome l p = p.locale ≡ l
+IsLocal seat InTaken c p = p.locale ≡ (place_in (seat c).homing.chain).locale
+IsLocal seat _ i p = Unit {0}
 
 module _ (shape : Shape) (count : Place → ℕ) where
   -- the word is 0, or that of the pointer to the present use of an object
@@ -38,6 +44,7 @@ module _ (shape : Shape) (count : Place → ℕ) where
     pub home_heads : (l : ℕ) → IsCurrent (home_head l)
     pub seats : (c : ℕ) → IsSeatCurrent (phased (seat c)) (seat c).homing
     pub nexts : (p : Place) → IsPlace shape p → IsNextCurrent next (λ c. (phased (seat c)).list_wait) ((loc p).kind) p
+    pub locals : (p : Place) → IsPlace shape p → IsLocal seat ((loc p).kind) ((loc p).first) p
     -- only locations of lists have two numbers
     pub flat : (p : Place) → (loc p).kind ≢ InList → (loc p).second ≡ 0
 

@@ -13,22 +13,24 @@ use Rattle.epoch_laws.specs.Places.{Place, place_of, place_in, pending, is_among
 use Rattle.epoch_laws.specs.Seats.{Seat, Advanced}
 use Rattle.epoch_laws.specs.States.{State, IsPlace}
 use Rattle.epoch_laws.specs.DeferralSteps.{defer_look}
+use Rattle.epoch_laws.specs.Counts.{HasCounts}
 use Rattle.epoch_laws.specs.Holds.{AreHeld}
 use Rattle.epoch_laws.specs.Locations.{Kind as LocationKind, InStack, InTaken, InHand, IsOwned, InRest, Location, at_}
 use Rattle.epoch_laws.specs.Sound.{Fits, Map, IsSound, state_of}
 use Rattle.epoch_laws.specs.Timing.{timing, timing_at, pinned_at}
 use Rattle.epoch_laws.specs.Needs.{AllMet}
 use Rattle.epoch_laws.specs.ReclaimSteps.{walk}
-use Rattle.epoch_laws.specs.StackSteps.{stack_look, stack_pop, looked_top, same_head}
+use Rattle.epoch_laws.specs.StackSteps.{stack_look}
 use Rattle.epoch_laws.specs.HomeSteps.{home_walk}
 use Rattle.epoch_laws.specs.Steps.{move}
-use Rattle.epoch_laws.proofs.ChainWords.{stack_top, list_word, home_word, walked_word, taken_word, popped_at, taken_at, walked_from}
+use Rattle.epoch_laws.proofs.ChainWords.{stack_top, list_word, home_word, walked_word, taken_word, top_in_stack, taken_at, walked_from, home_local, taken_local}
 use Rattle.epoch_table.specs.Deeds.{deed}
 use Rattle.epoch_table.specs.Facts.{Facts, AreFacts, IsNew}
 use Rattle.epoch_table.specs.Knowledge.{Finds}
 use Rattle.epoch_table.specs.Rule.{AreSmall, AreLow}
 use Rattle.epoch_table.specs.Kinds.{Succeeds, Learns}
-use Rattle.epoch_table.proofs.Knowledge.{header_found, head_found}
+use Rattle.epoch_table.proofs.Knowledge.{header_found}
+use Rattle.epoch_table.proofs.Scenes.{hand_fits}
 
 -- what of a row tells of the word: the locale of a look at a stack is one of the shape's, and the chain that is walked over isn't at its end
 abbrev pub Within : ℕ → Seat → Kind → Type 0
@@ -101,22 +103,19 @@ module _ (s : State) (m : Map) (sound : IsSound s m) (held : AreHeld s) (c : ℕ
       absurd (cc (shown.pinned, none))
 
   abbrev pub Newly : Kind → Type 0
-  Newly StackPop = same_head (s.words.free_head (s.seat c).stack.locale) (s.seat c).stack.head ≡ true → IsNew (s.seat c) (looked_top (s.seat c).stack)
   Newly (DeferLook q) = IsPlace s.shape (place_of q)
+  Newly (StackLook l) = (s.words.free_head l).index ≢ 0 → IsNew (s.seat c) (record { locale = l; index = (s.words.free_head l).index })
   Newly Walk = IsNew (s.seat c) (place_in (s.seat c).reclaim.chain)
   Newly HomeWalk = IsNew (s.seat c) (place_in (s.seat c).homing.chain)
   Newly _ = Unit {0}
 
-  popped_newly : AllMet (stack_pop s c).needs → Newly StackPop
-  popped_newly h won =
-      let at = at_ InStack (s.seat c).stack.locale in
-      let is = popped_at s m sound c h won in
-      new_at _ at is (λ e. absurd (cc e)) (λ e. absurd (cc e)) (not_shown _ at is (λ e. absurd (cc e)))
-
   pub newly : IsShape s.shape → (k : Kind) → AllMet (move s c k).needs → Newly k
-  unfolding move walk home_walk defer_look
-  newly is_shape StackPop h = popped_newly h
+  unfolding move walk home_walk stack_look defer_look
   newly is_shape (DeferLook q) h = h.1.0
+  newly is_shape (StackLook l) h =
+      λ some.
+      let is = top_in_stack s m sound l h.1.0 some in
+      new_at _ (at_ InStack l) is (λ e. absurd (cc e)) (λ e. absurd (cc e)) (not_shown _ (at_ InStack l) is (λ e. absurd (cc e)))
   newly is_shape Walk h =
       new_at _ (at_ InRest c) (walked_from s m sound c h.1.0.0 h.1.0.1) (λ e. absurd (cc e)) (λ e. absurd (cc e)) (advanced_holds h.1.0.0 _)
   newly is_shape HomeWalk h =
@@ -124,7 +123,7 @@ module _ (s : State) (m : Map) (sound : IsSound s m) (held : AreHeld s) (c : ℕ
       new_at _ (at_ InTaken c) is (λ e. absurd (cc e)) (λ e. absurd (cc e)) (not_shown _ (at_ InTaken c) is (λ e. absurd (cc e)))
   newly is_shape _ h = tt
 
-module _ (s : State) (m : Map) (sound : IsSound s m) (is_shape : IsShape s.shape) (small : AreSmall s) (low : AreLow s) (held : AreHeld s) (c : ℕ) (facts : Facts) (known : AreFacts s.words (s.seat c) facts) (found : ℕ) where
+module _ (s : State) (m : Map) (sound : IsSound s m) (is_shape : IsShape s.shape) (small : AreSmall s) (low : AreLow s) (held : AreHeld s) (current : HasCounts s m.loc) (c : ℕ) (facts : Facts) (known : AreFacts s.words (s.seat c) facts) (found : ℕ) where
   pub learns : (k : Kind) → Within s.shape.locales (s.seat c) k → Newly s m sound held c k → Succeeds k s c → Finds s.words (deed (s.seat c) k) found → Learns s.shape (s.seat c) facts k found
   learns (Register l n) within new succeeds finds = tt
   learns Unregister within new succeeds finds = tt
@@ -132,7 +131,12 @@ module _ (s : State) (m : Map) (sound : IsSound s m) (is_shape : IsShape s.shape
   learns PinSet within new succeeds finds = tt
   learns Unpin within new succeeds finds = tt
   learns (TakeLook l i) within new succeeds finds =
-      let p : Place = record { locale = l; index = i } in λ n has is. ap (λ h. h.count) (sym (header_found (s.words.header p) found finds)) ∙ known.count p n has is
+      let p : Place = record { locale = l; index = i } in (
+        λ n has is. ap (λ h. h.count) (sym (header_found (s.words.header p) found finds)) ∙ known.count p n has is,
+        λ among.
+            let fits = hand_fits s m sound c p among in
+            ((s.words.header p).count, fits.bound, sym finds ∙ ap (λ x. header_word (s.words.header p).count x) fits.state),
+      )
   learns (TakeTry l i) within new succeeds finds = sym finds ∙ ap (λ h. header_word h.count h.state) succeeds
   learns (Show q) within new succeeds finds = tt
   learns (Hold q) within new succeeds finds = tt
@@ -153,15 +157,20 @@ module _ (s : State) (m : Map) (sound : IsSound s m) (is_shape : IsShape s.shape
   learns Leave within new succeeds finds = tt
   learns (StackLook l) within new succeeds finds =
       let head = s.words.free_head l in
-      let index : free_index found ≡ head.index = ap free_index (sym finds) ∙ mod-mul-add head.count 16777216 head.index (small.heads l) in
-      subst (λ n. n ≤ s.shape.objects) (sym index) (stack_top s m sound l within)
+      let index : free_index found ≡ head.index = ap free_index (sym finds) ∙ mod-mul-add head.count 16777216 head.index (small.heads l) in (
+        subst (λ n. n ≤ s.shape.objects) (sym index) (stack_top s m sound l within),
+        subst (λ n. n ≢ 0 → IsNew (s.seat c) (record { locale = l; index = n })) (sym index) new,
+      )
   learns StackNext within new succeeds finds = tt
-  learns StackPop within new succeeds finds =
-      let look = (s.seat c).stack in
-      λ won. new (ap (λ h. same_head h look.head) (head_found (s.words.free_head look.locale) found (small.heads look.locale) finds) ∙ won)
+  learns StackPop within new succeeds finds = tt
   learns (StackPut top tail) within new succeeds finds = tt
   learns (HandLink q word) within new succeeds finds = tt
   learns (HomeSwap top tail) within new succeeds finds = tt
   learns HomeLink within new succeeds finds = tt
-  learns (HomeTake l) within new succeeds finds = subst (IsChainWord s.shape) finds (home_word s m sound l)
-  learns HomeWalk within new succeeds finds = (subst (λ w. (w ≡ pending) ⊎ IsChainWord s.shape w) finds (taken_word s m sound is_shape c within), new)
+  learns (HomeTake l) within new succeeds finds =
+      (subst (IsChainWord s.shape) finds (home_word s m sound l), λ some. subst (λ w. w ≢ 0 → (place_in w).locale ≡ l) finds (home_local s m sound current l) some)
+  learns HomeWalk within new succeeds finds = (
+    subst (λ w. (w ≡ pending) ⊎ IsChainWord s.shape w) finds (taken_word s m sound is_shape c within),
+    new,
+    subst (λ w. w ≢ pending → w ≢ 0 → (place_in w).locale ≡ (place_in (s.seat c).homing.chain).locale) finds (taken_local s m sound is_shape current c within),
+  )

@@ -218,7 +218,7 @@ module _ {Self View' Call Reply State' : Type 0} (K : ClientTerms Self View' Cal
     learns_so =
         subst (λ x. Learns plan.shape x (m.parts c).facts kind said) (sym (rule.seats c))
         (subst (λ x. Learns x (now.seat c) (m.parts c).facts kind said) shape_is
-        (learns now reached.map reached.sound (subst IsShape (sym shape_is) rule.is_shape) rule.small rule.low reached.held c (m.parts c).facts facts_now said kind (within_row now c kind row) (newly now reached.map reached.sound reached.held c (subst IsShape (sym shape_is) rule.is_shape) kind row) succeeds finds_now))
+        (learns now reached.map reached.sound (subst IsShape (sym shape_is) rule.is_shape) rule.small rule.low reached.held reached.current c (m.parts c).facts facts_now said kind (within_row now c kind row) (newly now reached.map reached.sound reached.held c (subst IsShape (sym shape_is) rule.is_shape) kind row) succeeds finds_now))
 
     abbrev pub steps_after : List Step
     steps_after = rule.steps ++ record { seat = c; kind = kind } ∷ []

@@ -1,5 +1,5 @@
 -- The kinds of step of the machine on a table: from which seat, on which word, and what each tells.
-use Rattle.std.specs.Prelude.{◌≡◌, ◌⊎◌, ◌≤◌, ℕ, true, false, List, [], ◌∷◌, ◌++◌, map, Some}
+use Rattle.std.specs.Prelude.{◌≡◌, ◌≢◌, ◌⊎◌, ◌<◌, ◌≤◌, ◌^◌, ℕ, true, false, List, [], ◌∷◌, ◌++◌, map, Some}
 use Rattle.atomic_table.specs.Table.{Me}
 use Rattle.pass_book.specs.declared.entries.Entry.{Entry}
 use Rattle.pass_book.specs.declared.entries.Look.{Look}
@@ -8,7 +8,7 @@ use Rattle.epoch_laws.specs.declared.events.Item.{Item}
 use Rattle.epoch_laws.specs.declared.steps.Kind.{Kind}
 use Rattle.epoch_laws.specs.declared.steps.Kind.TheVariants.{PinLook, Unpin, TakeLook, TakeTry, Show, Hold, Touch, Return, DeferLook, ElectLocal, EpochLook, Collect, Walk, Release, StackLook, StackPop, StackPut, HomeTake, HomeWalk}
 use Rattle.epoch_laws.specs.ChainWords.{IsChainWord}
-use Rattle.epoch_laws.specs.Places.{Place, place_of, place_in, pending}
+use Rattle.epoch_laws.specs.Places.{Place, place_of, place_in, pending, is_among}
 use Rattle.epoch_laws.specs.Words.{WordName}
 use Rattle.pass_table.specs.declared.views.View.{View}
 use Rattle.pass_table.specs.Terms.{Effect, SeesSo, Permits}
@@ -24,12 +24,11 @@ use Rattle.pool_core.specs.FreeWords.{free_index}
 use Rattle.epoch_table.specs.Events.{PastOpens, PastSteps}
 use Rattle.epoch_table.specs.Facts.{Facts, Keeps, IsNew, count_of, facts_after}
 use Rattle.epoch_table.specs.Heads.{won_after, Causes}
-use Rattle.epoch_table.specs.Numbers.{header_in, head_in}
+use Rattle.epoch_table.specs.Numbers.{header_in}
 use Rattle.epoch_table.specs.Knowledge.{tells, Row}
 use Rattle.epoch_table.specs.Clients.{ClientTerms, Takes, Shows, Returns, Defers, Frees}
 use Rattle.epoch_laws.specs.Seats.{Seat}
 use Rattle.epoch_laws.specs.States.{State, IsPlace}
-use Rattle.epoch_laws.specs.StackSteps.{looked_top, same_head}
 use Rattle.epoch_laws.specs.TakeSteps.{look_count}
 use Rattle.pool_core.specs.Headers.{header_word}
 use Rattle.pool_core.specs.declared.headers.State.TheVariants.{Free}
@@ -99,22 +98,26 @@ IsMade (Hold pointer) = ⊥
 IsMade (Touch pointer) = ⊥
 IsMade _ = Unit {0}
 
--- What a step learns of the number that it finds, beside what that is: the header of an object that the seat has says the count that is known of it, a take wins, an
--- epoch isn't above the last, a deferred object is one of the shape, the object on top of a stack is one of its locale's, and a chain leads to objects of the shape.
--- An object that a step takes from a stack or a chain is new to the seat
+-- What a step learns of the number that it finds, beside what that is: the header of an object that the seat has says the count that is known of it, that of one in
+-- its hand says free, a take wins, an epoch isn't above the last, a deferred object is one of the shape, the object on top of a stack is one of its locale's, and a
+-- chain leads to objects of the shape. An object that a step takes from a stack or a chain is new to the seat, and those of a home chain are of its locale
 abbrev pub Learns : Shape → Seat → Facts → Kind → ℕ → Type 0
 Learns shape seat facts (TakeLook locale index) found =
-    let p : Place = record { locale = locale; index = index } in (n : ℕ) → Keeps seat p → count_of facts p ≡ Some n → (header_in found).count ≡ n
+    let p : Place = record { locale = locale; index = index } in
+    ((n : ℕ) → Keeps seat p → count_of facts p ≡ Some n → (header_in found).count ≡ n)
+    × (is_among p seat.hand ≡ true → (n : ℕ) × (n < 2 ^ 32) × (found ≡ header_word n Free))
 Learns shape seat facts (TakeTry locale index) found = found ≡ header_word (look_count seat.free_look) Free
 Learns shape seat facts PinLook found = found ≤ last_epoch
 Learns shape seat facts (DeferLook pointer) found = (found ≤ last_epoch) × IsPlace shape (place_of pointer)
 Learns shape seat facts EpochLook found = found ≤ last_epoch
-Learns shape seat facts (StackLook locale) found = free_index found ≤ shape.objects
+Learns shape seat facts (StackLook locale) found =
+    (free_index found ≤ shape.objects) × (free_index found ≢ 0 → IsNew seat (record { locale = locale; index = free_index found }))
 Learns shape seat facts Collect found = IsChainWord shape found
 Learns shape seat facts Walk found = IsChainWord shape found × IsNew seat (place_in seat.reclaim.chain)
-Learns shape seat facts StackPop found = same_head (head_in found) seat.stack.head ≡ true → IsNew seat (looked_top seat.stack)
-Learns shape seat facts (HomeTake locale) found = IsChainWord shape found
-Learns shape seat facts HomeWalk found = ((found ≡ pending) ⊎ IsChainWord shape found) × IsNew seat (place_in seat.homing.chain)
+Learns shape seat facts (HomeTake locale) found = IsChainWord shape found × (found ≢ 0 → (place_in found).locale ≡ locale)
+Learns shape seat facts HomeWalk found =
+    ((found ≡ pending) ⊎ IsChainWord shape found) × IsNew seat (place_in seat.homing.chain)
+    × (found ≢ pending → found ≢ 0 → (place_in found).locale ≡ (place_in seat.homing.chain).locale)
 Learns shape seat facts _ found = Unit {0}
 
 module _ {Call Reply : Type 0} where
