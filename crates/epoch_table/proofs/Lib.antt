@@ -8,6 +8,7 @@ pub mod Writing
 pub mod Returns
 pub mod Epochs
 pub mod Scenes
+pub mod ReleasedBy
 pub mod MachineSteps
 pub mod Insides
 pub mod Permitted

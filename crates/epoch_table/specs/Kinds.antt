@@ -24,6 +24,7 @@ use Rattle.pool_core.specs.FreeWords.{free_index}
 use Rattle.epoch_table.specs.Events.{PastOpens, PastSteps}
 use Rattle.epoch_table.specs.Facts.{Facts, Keeps, IsNew, count_of, facts_after}
 use Rattle.epoch_table.specs.Heads.{won_after, Causes}
+use Rattle.epoch_table.specs.Released.{ReleasesOnce}
 use Rattle.epoch_table.specs.Numbers.{header_in}
 use Rattle.epoch_table.specs.Knowledge.{tells, Row}
 use Rattle.epoch_table.specs.Clients.{ClientTerms, Takes, Shows, Returns, Defers, Frees}
@@ -170,6 +171,7 @@ module _ {Self View' Call Reply State' : Type 0} (K : ClientTerms Self View' Cal
         Learns plan.shape part.seat part.facts kind found
         × SeesSo e (looks_of (deed part.seat kind) found) (entries_made kind part found) (part_after kind part found) carried
         × Causes plan.start.stack plan.callers kind part.won found (e.history ++ e.entries)
+        × ReleasesOnce caller kind (e.history ++ e.entries)
 
     -- its row is met, and the client allows it
     pub record MayMake (kind : Kind) (part : Part View') : Type 0 where
@@ -192,3 +194,4 @@ module _ {Self View' Call Reply State' : Type 0} (K : ClientTerms Self View' Cal
         × GoesTo (manager_terms K) (PastOpens opens) (PastSteps step) plan m n (looks_of (deed part.seat kind) found) (entries_made plan m.0.number kind part found)
         (part_after plan m.0.number kind part found) m.1
         × Causes plan.start.stack plan.callers kind part.won found n.0.seen
+        × ReleasesOnce m.0.number kind n.0.seen

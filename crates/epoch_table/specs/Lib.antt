@@ -5,6 +5,7 @@ pub mod Facts
 pub mod Knowledge
 pub mod Events
 pub mod Heads
+pub mod Released
 pub mod Clients
 pub mod Rule
 pub mod Kinds
