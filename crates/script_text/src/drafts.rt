@@ -58,12 +58,7 @@ impl ScriptDraft {
             before: mut rounds,
             calls,
         } = self;
-        let Stage::InRound {
-            object,
-            callers,
-            ..
-        } = stage
-        else {
+        let Stage::InRound(object, callers, _) = stage else {
             unreachable!()
         };
         rounds.push(Round { calls })?;
@@ -80,11 +75,11 @@ impl ScriptDraft {
         ensures { OnOk result (self.new ≡ line_after self.old line) }
     {
         match line {
-            Line::Callers { callers } => {
+            Line::Callers(callers) => {
                 self.calls = silence(*self.calls.allocator(), callers as usize)?;
             }
             Line::Round => end_round(&mut self.before, &mut self.calls)?,
-            Line::Call { call } => push_call(&mut self.calls, self.stage.caller(), call)?,
+            Line::Call(call) => push_call(&mut self.calls, self.stage.caller(), call)?,
             _ => (),
         }
         self.stage = self.stage.after(line);
@@ -102,14 +97,14 @@ impl Draft<Line, Spot> for ScriptDraft {
     // What is asked and taken for each line is inlined into the reader's loop, so that no line is copied from call to call.
     #[inline(always)]
     fn start(&self) -> Spot {
-        self.stage.start()
+        Spot::Start(self.stage)
     }
 
     #[inline(always)]
     fn counts(&self, said: Option<Line>) -> bool
         ensures { result ≡ is_counted said }
     {
-        matches!(said, Some(Line::Round | Line::Call { .. }))
+        matches!(said, Some(Line::Round | Line::Call(_)))
     }
 
     fn most(&self) -> u64 {

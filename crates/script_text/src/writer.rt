@@ -7,7 +7,7 @@ ghost use Rattle.script_text.specs.Scripts.{written, written_head, plain_script,
 
 use crate::lines::Line;
 use crate::replies::{Left, Replies, Reply};
-use crate::rows::{Numbers, call_word, numbers_of, object_word};
+use crate::rows::{Numbers, call_parts, kind_word, numbers_of};
 use crate::scripts::{Call, ObjectLine, Round, Script};
 use itoa::Buffer;
 use std::alloc::{AllocError, Global};
@@ -93,12 +93,12 @@ fn push_words(text: &mut String, line: Line) -> Result<(), AllocError>
 {
     match line {
         Line::Pgas => text.push_str("pgas 1"),
-        Line::Object { object } => push_both(text, "object ", object_word(object)),
-        Line::Callers { .. } => text.push_str("callers"),
-        Line::Caller { .. } => text.push_str("caller"),
+        Line::Object(object) => push_both(text, "object ", kind_word(object.kind())),
+        Line::Callers(_) => text.push_str("callers"),
+        Line::Caller(_) => text.push_str("caller"),
         Line::Round => text.push_str("round"),
-        Line::Call { call } if is_once(call) => push_both(text, "try ", call_word(call)),
-        Line::Call { call } => text.push_str(call_word(call)),
+        Line::Call(call) if is_once(call) => push_both(text, "try ", call_parts(call).0),
+        Line::Call(call) => text.push_str(call_parts(call).0),
         Line::End => text.push_str("end"),
     }
 }
@@ -121,20 +121,13 @@ fn is_once(call: Call) -> bool
 
 /// Adds numbers, with a space before each.
 fn push_numbers(text: &mut String, numbers: Numbers) -> Result<(), AllocError>
-    requires { numbers.count < 4 }
     ensures { OnOk result (string_bytes text.new ≡ string_bytes text.old ++ spaced (map decimal (listed numbers))) }
 {
-    let Numbers {
-        count,
-        first,
-        second,
-        third,
-    } = numbers;
-    match count {
-        0 => Ok(()),
-        1 => write!(text, " {first}"),
-        2 => write!(text, " {first} {second}"),
-        _ => write!(text, " {first} {second} {third}"),
+    match numbers {
+        Numbers::Zero => Ok(()),
+        Numbers::One(first) => write!(text, " {first}"),
+        Numbers::Two(first, second) => write!(text, " {first} {second}"),
+        Numbers::Three(first, second, third) => write!(text, " {first} {second} {third}"),
     }
 }
 
@@ -156,7 +149,7 @@ fn push_calls(text: &mut String, caller: usize, calls: &[Call]) -> Result<(), Al
     }
     writeln!(text, "caller {caller}")?;
     for call in calls {
-        push_whole(text, Line::Call { call: *call })?;
+        push_whole(text, Line::Call(*call))?;
     }
     Ok(())
 }
@@ -191,8 +184,8 @@ fn push_head(text: &mut String, object: ObjectLine, callers: u32) -> Result<(), 
     ensures { OnOk result (string_bytes text.new ≡ string_bytes text.old ++ written_head object callers) }
 {
     push_whole(text, Line::Pgas)?;
-    push_whole(text, Line::Object { object })?;
-    push_whole(text, Line::Callers { callers })
+    push_whole(text, Line::Object(object))?;
+    push_whole(text, Line::Callers(callers))
 }
 
 /// The text of the script: its lines in order, with single spaces and no leading zeros, in each round a
