@@ -22,7 +22,7 @@ use Rattle.script_text.specs.Forms.{calls_at, tries, round_words, round_start, c
 use Rattle.script_text.specs.Fronts.{is_made, some_words, count_with, listed_with, few_numbers, listed_made, spot_whole, spot_row, bounds_sound}
 use Rattle.script_text.specs.Sound.{in_row, length_call_words, call_word_at, round_size, word_keeps, number_keeps_at}
 use Rattle.script_text.specs.Lines.{MayCome}
-use Rattle.script_text.specs.Rows.{listed, count, with_number, kind_of, call_of, call_word, words_of, numbers_of, line_words, written_line, made}
+use Rattle.script_text.specs.Rows.{listed, count, with_number, kind_of, words_of, numbers_of, line_words, written_line, made, row_word}
 
 -- ---- how long the words so far are written, with a space before each
 
@@ -53,15 +53,15 @@ spot_cost row n few = by (count n == count_of row) refl
     by false is = let other = eqb-false (count n) (count_of row) is in ap cost (spot_row row n (omega (arith, few, other)))
 
 -- a call, also behind the word `try`
-call_costs : (kind : Kind) (word : ℕ) → (cost (call_spot kind word false) ≡ 1 + length (call_word (call_of kind word false Zero))) × (cost (call_spot kind word true) ≤ 5 + length (call_word (call_of kind word false Zero)))
+call_costs : (kind : Kind) (word : ℕ) → (cost (call_spot kind word false) ≡ 1 + length (row_word (Call kind word false))) × (cost (call_spot kind word true) ≤ 5 + length (row_word (Call kind word false)))
 call_costs KList word =
-    let one = length-append (call_word (call_of KList word false Zero)) [] in
+    let one = length-append (row_word (Call KList word false)) [] in
     (omega (arith, spot_cost (Call KList word false) Zero (omega arith), one), omega (arith, spot_cost (Call KList word true) Zero (omega arith), one))
 call_costs KBag word =
-    let one = length-append (call_word (call_of KBag word false Zero)) [] in
+    let one = length-append (row_word (Call KBag word false)) [] in
     (omega (arith, spot_cost (Call KBag word false) Zero (omega arith), one), omega (arith, spot_cost (Call KBag word true) Zero (omega arith), one))
 call_costs KDeque word =
-    let one = length-append (call_word (call_of KDeque word false Zero)) [] in
+    let one = length-append (row_word (Call KDeque word false)) [] in
     (omega (arith, spot_cost (Call KDeque word false) Zero (omega arith), one), omega (arith, spot_cost (Call KDeque word true) Zero (omega arith), one))
 
 behind_costs : (kind : Kind) (callers index : ℕ) (b : Bool) → index < length (round_words b) → cost (behind_calls kind callers index) ≤ 1 + length (slice_index_or (round_words b) index [])

@@ -30,7 +30,7 @@ use Rattle.script_text.specs.declared.scripts.Call.TheVariants.{List as OfList, 
 use Rattle.script_text.specs.Forms.{bounds_of, row_spot, script_grammar, In, count_of, IsSpot, IsStage}
 use Rattle.script_text.specs.Fronts.{some_words, count_with, few_numbers, spot_whole, spot_row, some_callers}
 use Rattle.script_text.specs.Lines.{IsObject, IsCallOf, MayCome}
-use Rattle.script_text.specs.Rows.{listed, count, with_number, with_try, is_once, call_word, words_of, numbers_of, line_words, made}
+use Rattle.script_text.specs.Rows.{listed, count, with_number, try_before, is_once, call_parts, words_of, numbers_of, line_words, made}
 use Rattle.script_text.specs.Sound.{says_caller, says_round, says_end}
 
 -- ---- the numbers of a row
@@ -134,7 +134,7 @@ line_reads stage line staged may = absurd may
 
 -- ---- letters
 
-call_letters : (call : Call) → are_words (call_word call ∷ []) ≡ true
+call_letters : (call : Call) → are_words ((call_parts call).0 ∷ []) ≡ true
 call_letters (OfList (Read at)) = refl
 call_letters (OfList (Write at value)) = refl
 call_letters (OfList (Swap at old new)) = refl
@@ -151,7 +151,7 @@ call_letters (OfDeque PopFront once) = refl
 line_letters : (line : Line) → are_words (words_of line) ≡ true
 line_letters (ACall call) = by (is_once call)
   where
-    by : (once : Bool) → are_words (with_try once (call_word call ∷ [])) ≡ true
+    by : (once : Bool) → are_words (try_before once ++ (call_parts call).0 ∷ []) ≡ true
     by true = call_letters call
     by false = call_letters call
 line_letters (Object (AList locales objects width)) = refl

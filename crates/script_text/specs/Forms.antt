@@ -17,14 +17,14 @@ use Rattle.script_text.specs.declared.rows.Row.{Row}
 use Rattle.script_text.specs.declared.rows.Row.TheVariants.{Object, Callers, Caller, Call}
 use Rattle.script_text.specs.declared.scripts.ObjectLine.{ObjectLine}
 use Rattle.script_text.specs.Lines.{most_callers, MayCome}
-use Rattle.script_text.specs.Rows.{count, with_number, kind_of, kind_word, call_of, call_word, numbers_of, made}
+use Rattle.script_text.specs.Rows.{count, with_number, kind_of, numbers_of, made, row_word}
 
 -- ---- words
 
 -- the words of so many calls, from that of this number on
 abbrev pub call_words : Kind → ℕ → ℕ → List (List ℕ)
 call_words kind word zero = []
-call_words kind word (suc more) = call_word (call_of kind word false Zero) ∷ call_words kind (word + 1) more
+call_words kind word (suc more) = row_word (Call kind word false) ∷ call_words kind (word + 1) more
 
 -- how many calls may come, if a `caller` line stands before
 abbrev pub calls_at : Bool → Kind → ℕ
@@ -53,7 +53,7 @@ words_at (Start AtObject) = codes "object" ∷ []
 words_at (Start (AtCallers object)) = codes "callers" ∷ []
 words_at (Start (InRound object callers caller)) = round_start (is_some caller) (kind_of object) callers
 words_at Version = codes "1" ∷ []
-words_at AKind = kind_word KList ∷ kind_word KBag ∷ kind_word KDeque ∷ []
+words_at AKind = row_word (Object KList) ∷ row_word (Object KBag) ∷ row_word (Object KDeque) ∷ []
 words_at (Try kind) = call_words kind 0 (calls_at true kind)
 words_at spot = []
 

@@ -1,6 +1,7 @@
 -- The numbers of a row: each leaves those behind it some number, and with its last the row is a line that may come.
-use Rattle.std.proofs.Common.{◌≡◌, ℕ, zero, suc, ◌+◌, ◌-◌, ◌*◌, ◌/◌, ◌<◌, ◌≤◌, ◌^◌, ◌==◌, min, Bool, true, false, List, [], ◌∷◌, ◌++◌, length, take, All, refl, ap, sym, ◌∙◌, arith, subst, inr}
+use Rattle.std.proofs.Common.{◌≡◌, ℕ, zero, suc, ◌+◌, ◌-◌, ◌*◌, ◌/◌, ◌<◌, ◌≤◌, ◌^◌, ◌==◌, min, Bool, true, List, [], ◌∷◌, ◌++◌, length, take, All, refl, ap, sym, ◌∙◌, arith, subst, inr}
 use Rattle.std.proofs.lemmas.Bool.{cond-true, cond-false, eq-eqb, ne_eqb, false≢true}
+use Rattle.std.proofs.lemmas.List.{length_push}
 use Rattle.std.proofs.lemmas.List.Elements.{All-nil, All-cons}
 use Rattle.std.proofs.lemmas.Nat.{mul-le, le-div, div-add-mod'}
 use Rattle.std.proofs.Math.Nat.{mul_comm}
@@ -9,7 +10,7 @@ use Rattle.script_text.specs.declared.forms.Spot.TheVariants.{Row as ARow, Whole
 use Rattle.script_text.specs.declared.lines.Kind.{Kind}
 use Rattle.script_text.specs.declared.lines.Kind.TheVariants.{List as KList, Bag as KBag, Deque as KDeque}
 use Rattle.script_text.specs.declared.lines.Line.{Line}
-use Rattle.script_text.specs.declared.lines.Line.TheVariants.{Pgas, Object as ObjectLine, Callers as CallersLine, Caller as CallerLine, Round, Call as CallLine, End}
+use Rattle.script_text.specs.declared.lines.Line.TheVariants.{Callers as CallersLine, Caller as CallerLine, Call as CallLine}
 use Rattle.script_text.specs.declared.lines.Stage.{Stage}
 use Rattle.script_text.specs.declared.lines.Stage.TheVariants.{AtObject}
 use Rattle.script_text.specs.declared.rows.Numbers.{Numbers}
@@ -20,7 +21,7 @@ use Rattle.script_text.specs.declared.scripts.ObjectLine.{ObjectLine as AnObject
 use Rattle.script_text.specs.declared.scripts.ObjectLine.TheVariants.{List as AList, Bag as ABag, Deque as ADeque}
 use Rattle.script_text.specs.Forms.{between, bounds_of, count_of, row_spot, In, IsFront, RowAt, IsStage}
 use Rattle.script_text.specs.Lines.{IsOfObject, IsCallOf, MayCome, most_callers}
-use Rattle.script_text.specs.Rows.{count, listed, nth, with_number, kind_of, is_once, with_try, call_word, words_of, call_of, numbers_of, made}
+use Rattle.script_text.specs.Rows.{count, listed, nth, with_number, kind_of, is_once, line_parts, fronts, words_of, call_of, numbers_of, made}
 
 -- ---- a row and its line
 
@@ -77,17 +78,7 @@ spot_row row n some = cond-false (count (numbers_of (made row n)) == count n) (W
 
 -- every line has a word
 pub some_words : (line : Line) → 0 < length (words_of line)
-some_words (CallLine call) = by (is_once call)
-  where
-    by : (b : Bool) → 0 < length (with_try b (call_word call ∷ []))
-    by true = omega arith
-    by false = omega arith
-some_words Pgas = omega arith
-some_words (ObjectLine object) = omega arith
-some_words (CallersLine callers) = omega arith
-some_words (CallerLine caller) = omega arith
-some_words Round = omega arith
-some_words End = omega arith
+some_words line = omega (arith, length_push (fronts line) (line_parts line).0)
 
 -- ---- one more number
 

@@ -91,9 +91,6 @@ call_parts (OfList call) = list_parts call
 call_parts (OfBag call once) = bag_parts call
 call_parts (OfDeque call once) = deque_parts call
 
-abbrev pub call_word : Call → List ℕ
-call_word call = (call_parts call).0
-
 abbrev pub call_numbers : Call → Numbers
 call_numbers call = (call_parts call).1
 
@@ -102,11 +99,6 @@ is_once (OfList call) = false
 is_once (OfBag call once) = once
 is_once (OfDeque call once) = once
 
--- a call that is tried once has `try` before it
-abbrev pub with_try : Bool → List (List ℕ) → List (List ℕ)
-with_try true words = codes "try" ∷ words
-with_try false words = words
-
 -- ---- lines
 
 abbrev pub kind_of : ObjectLine → Kind
@@ -114,32 +106,39 @@ kind_of (AList locales objects width) = KList
 kind_of (ABag locales segments room) = KBag
 kind_of (ADeque locales capacity) = KDeque
 
-abbrev pub kind_word : Kind → List ℕ
-kind_word KList = codes "list"
-kind_word KBag = codes "bag"
-kind_word KDeque = codes "deque"
+abbrev pub object_parts : ObjectLine → List ℕ × Numbers
+object_parts (AList locales objects width) = (codes "list", Three locales objects width)
+object_parts (ABag locales segments room) = (codes "bag", Three locales segments room)
+object_parts (ADeque locales capacity) = (codes "deque", Two locales capacity)
+
+-- the last word of a line, and its numbers
+abbrev pub line_parts : Line → List ℕ × Numbers
+line_parts Pgas = (codes "1", Zero)
+line_parts (Object object) = object_parts object
+line_parts (Callers callers) = (codes "callers", One callers)
+line_parts (Caller caller) = (codes "caller", One caller)
+line_parts Round = (codes "round", Zero)
+line_parts (ACall call) = call_parts call
+line_parts End = (codes "end", Zero)
+
+abbrev pub numbers_of : Line → Numbers
+numbers_of line = (line_parts line).1
+
+-- a call that is tried once has `try` before it
+abbrev pub try_before : Bool → List (List ℕ)
+try_before true = codes "try" ∷ []
+try_before false = []
+
+-- the words before the last one
+abbrev pub fronts : Line → List (List ℕ)
+fronts Pgas = codes "pgas" ∷ []
+fronts (Object object) = codes "object" ∷ []
+fronts (ACall call) = try_before (is_once call)
+fronts line = []
 
 -- the words before the numbers of a line
 abbrev pub words_of : Line → List (List ℕ)
-words_of Pgas = codes "pgas" ∷ codes "1" ∷ []
-words_of (Object object) = codes "object" ∷ kind_word (kind_of object) ∷ []
-words_of (Callers callers) = codes "callers" ∷ []
-words_of (Caller caller) = codes "caller" ∷ []
-words_of Round = codes "round" ∷ []
-words_of (ACall call) = with_try (is_once call) (call_word call ∷ [])
-words_of End = codes "end" ∷ []
-
-abbrev pub object_numbers : ObjectLine → Numbers
-object_numbers (AList locales objects width) = Three locales objects width
-object_numbers (ABag locales segments room) = Three locales segments room
-object_numbers (ADeque locales capacity) = Two locales capacity
-
-abbrev pub numbers_of : Line → Numbers
-numbers_of (Object object) = object_numbers object
-numbers_of (Callers callers) = One callers
-numbers_of (Caller caller) = One caller
-numbers_of (ACall call) = call_numbers call
-numbers_of line = Zero
+words_of line = fronts line ++ (line_parts line).0 ∷ []
 
 -- all words of a line
 abbrev pub line_words : Line → List (List ℕ)
@@ -160,6 +159,10 @@ made (ObjectRow kind) n = Object (object_of kind n)
 made (CallersRow object) n = Callers (nth n 0)
 made (CallerRow callers) n = Caller (nth n 0)
 made (CallRow kind word once) n = ACall (call_of kind word once n)
+
+-- its last word
+abbrev pub row_word : Row → List ℕ
+row_word row = (line_parts (made row Zero)).0
 
 -- the numbers fit the fields of an object
 abbrev pub IsMakeableObject : Numbers → Type 0

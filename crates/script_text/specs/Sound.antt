@@ -29,7 +29,7 @@ use Rattle.script_text.specs.declared.scripts.Call.TheVariants.{List as OfList, 
 use Rattle.script_text.specs.Forms.{call_words, calls_at, tries, round_words, round_start, words_at, row_spot, call_spot, behind_calls, round_leads, kind_at, after_word, bounds_of, bounds_at, after_number, script_grammar, IsFront, count_of, RowAt, IsAt, IsSpot}
 use Rattle.script_text.specs.Fronts.{number_keeps, count_with, few_numbers, spot_whole, spot_row, bounds_sound, line_may}
 use Rattle.script_text.specs.Lines.{MayCome}
-use Rattle.script_text.specs.Rows.{count, with_number, kind_of, call_of, call_word, made}
+use Rattle.script_text.specs.Rows.{count, with_number, kind_of, made, row_word}
 
 -- ---- where words lead
 
@@ -47,13 +47,13 @@ pub length_call_words : (kind : Kind) (word more : ℕ) → length (call_words k
 length_call_words kind word zero = refl
 length_call_words kind word (suc more) = omega (arith, length_call_words kind (word + 1) more)
 
-call_words_at : (kind : Kind) (word more index : ℕ) → index < more → slice_index_or (call_words kind word more) index [] ≡ call_word (call_of kind (word + index) false Zero)
+call_words_at : (kind : Kind) (word more index : ℕ) → index < more → slice_index_or (call_words kind word more) index [] ≡ row_word (Call kind (word + index) false)
 call_words_at kind word zero index within = absurd (omega (arith, within))
-call_words_at kind word (suc more) zero within = ap (λ w. call_word (call_of kind w false Zero)) (omega arith)
-call_words_at kind word (suc more) (suc index) within = call_words_at kind (word + 1) more index (omega (arith, within)) ∙ ap (λ w. call_word (call_of kind w false Zero)) (omega arith)
+call_words_at kind word (suc more) zero within = ap (λ w. row_word (Call kind w false)) (omega arith)
+call_words_at kind word (suc more) (suc index) within = call_words_at kind (word + 1) more index (omega (arith, within)) ∙ ap (λ w. row_word (Call kind w false)) (omega arith)
 
-pub call_word_at : (kind : Kind) (more index : ℕ) → index < more → slice_index_or (call_words kind 0 more) index [] ≡ call_word (call_of kind index false Zero)
-call_word_at kind more index within = call_words_at kind 0 more index within ∙ ap (λ w. call_word (call_of kind w false Zero)) (omega arith)
+pub call_word_at : (kind : Kind) (more index : ℕ) → index < more → slice_index_or (call_words kind 0 more) index [] ≡ row_word (Call kind index false)
+call_word_at kind more index within = call_words_at kind 0 more index within ∙ ap (λ w. row_word (Call kind w false)) (omega arith)
 
 pub round_size : (spoken : Bool) (kind : Kind) (callers : ℕ) → length (round_start spoken kind callers) ≡ calls_at spoken kind + length (round_words (tries spoken kind callers))
 round_size spoken kind callers = omega (arith, length-append (call_words kind 0 (calls_at spoken kind)) (round_words (tries spoken kind callers)), length_call_words kind 0 (calls_at spoken kind))

@@ -1,12 +1,12 @@
-ghost use Rattle.std.specs.Prelude.{◌≡◌, ◌<◌, [], false, length, slice_index_or};
-ghost use Rattle.script_text.specs.Forms.{IsSpot, IsFront, script_grammar, kind_at, calls_at, tries, round_start, round_leads, row_spot, call_spot, between, object_bounds, bounds_of};
-ghost use Rattle.script_text.specs.Rows.{IsMakeable, call_of, call_word};
+ghost use Rattle.std.specs.Prelude.{◌≡◌, ◌<◌, [], length, slice_index_or};
+ghost use Rattle.script_text.specs.Forms.{IsSpot, IsFront, script_grammar, kind_at, calls_at, tries, round_start, round_leads, words_at, after_word, row_spot, between, object_bounds, bounds_of};
+ghost use Rattle.script_text.specs.Rows.{IsMakeable, row_word};
 ghost use Rattle.script_text.specs.declared.rows.Numbers.TheVariants.{Zero};
 ghost use Rattle.script_text.specs.declared.rows.Row.TheVariants.{Object as ObjectRow};
 ghost use Rattle.script_text.specs.Sound.{script_grammar_sound};
 
 use crate::lines::{Kind, Line, Stage};
-use crate::rows::{Numbers, Row, call_of, call_parts, kind_word, made, numbers_of};
+use crate::rows::{Numbers, Row, line_parts, made};
 use line_text::{Bounds, Form, Reject};
 use pgas_base::{LEAST_WIDTH, MOST_LOCALES, MOST_OBJECTS, MOST_WIDTH, MOST_WORDS};
 use seq_objects::{MOST_CAPACITY, MOST_ROOM, MOST_SEGMENTS};
@@ -60,53 +60,38 @@ fn tries(kind: Kind, callers: u32, spoken: bool) -> bool
     spoken && !matches!(kind, Kind::List) && callers == 1
 }
 
+/// A word that begins a line of a round, and where it leads.
 #[inline(always)]
-fn call_word(kind: Kind, index: usize) -> &'static str
-    ensures { result.now ≡ call_word (call_of kind index false Zero) }
-{
-    call_parts(call_of(kind, index, false, Numbers::Zero)).0
-}
-
-/// A word that begins a line of a round.
-#[inline(always)]
-fn round_word(kind: Kind, callers: u32, spoken: bool, index: usize) -> &'static str
+fn round_choice(kind: Kind, callers: u32, spoken: bool, index: usize) -> (&'static str, Spot)
     requires { index < length (round_start spoken kind callers) }
-    ensures { result.now ≡ slice_index_or (round_start spoken kind callers) index [] }
+    ensures word { result.0.now ≡ slice_index_or (round_start spoken kind callers) index [] }
+    ensures leads { result.1 ≡ round_leads spoken kind callers index }
 {
     let calls = calls_at(kind, spoken);
     if index < calls {
-        return call_word(kind, index);
+        return row_choice(Row::Call {
+            kind,
+            word: index,
+            once: false,
+        });
     }
     match index - calls {
-        0 => "caller",
-        1 => "round",
-        2 => "end",
-        _ => "try",
+        0 => row_choice(Row::Caller { callers }),
+        1 => ("round", Spot::Whole(Line::Round)),
+        2 => ("end", Spot::Whole(Line::End)),
+        _ => ("try", Spot::Try(kind)),
     }
 }
 
-/// Where it leads.
+/// The last word of a row, and where it leads.
 #[inline(always)]
-fn round_leads(kind: Kind, callers: u32, spoken: bool, index: usize) -> Spot
-    ensures { result ≡ round_leads spoken kind callers index }
+fn row_choice(row: Row) -> (&'static str, Spot)
+    requires { IsMakeable row Zero }
+    ensures word { result.0.now ≡ row_word row }
+    ensures leads { result.1 ≡ row_spot row Zero }
 {
-    let calls = calls_at(kind, spoken);
-    if index < calls {
-        return call_spot(kind, index, false);
-    }
-    match index - calls {
-        0 => row_spot(Row::Caller { callers }, Numbers::Zero),
-        1 => Spot::Whole(Line::Round),
-        2 => Spot::Whole(Line::End),
-        _ => Spot::Try(kind),
-    }
-}
-
-#[inline(always)]
-fn call_spot(kind: Kind, word: usize, once: bool) -> Spot
-    ensures { result ≡ call_spot kind word once }
-{
-    row_spot(Row::Call { kind, word, once }, Numbers::Zero)
+    let (word, _) = line_parts(made(row, Numbers::Zero));
+    (word, row_spot(row, Numbers::Zero))
 }
 
 /// Behind these numbers of a row.
@@ -116,7 +101,7 @@ fn row_spot(row: Row, numbers: Numbers) -> Spot
     ensures { result ≡ row_spot row numbers }
 {
     let line = made(row, numbers);
-    if numbers_of(line).count() == numbers.count() {
+    if line_parts(line).1.count() == numbers.count() {
         return Spot::Whole(line);
     }
     Spot::Row { row, numbers }
@@ -173,6 +158,35 @@ fn bounds_of(row: Row, numbers: Numbers) -> Bounds
     }
 }
 
+impl Spot {
+    /// The word of this number that may come next, and where it leads.
+    #[inline(always)]
+    fn choice(self, index: usize) -> (&'static str, Spot)
+        requires { index < length (words_at self) }
+        ensures word { result.0.now ≡ slice_index_or (words_at self) index [] }
+        ensures leads { result.1 ≡ after_word self index }
+    {
+        match self {
+            Spot::Start(Stage::AtPgas) => ("pgas", Spot::Version),
+            Spot::Start(Stage::AtObject) => ("object", Spot::Kind),
+            Spot::Start(Stage::AtCallers(object)) => row_choice(Row::Callers { object }),
+            Spot::Start(Stage::InRound(object, callers, caller)) => {
+                round_choice(object.kind(), callers, caller.is_some(), index)
+            }
+            Spot::Version => ("1", Spot::Whole(Line::Pgas)),
+            Spot::Kind => row_choice(Row::Object {
+                kind: kind_at(index),
+            }),
+            Spot::Try(kind) => row_choice(Row::Call {
+                kind,
+                word: index,
+                once: true,
+            }),
+            Spot::Row { .. } | Spot::Whole(_) => ("", self),
+        }
+    }
+}
+
 impl Form<Line> for Spot {
     ghost grammar = { script_grammar };
 
@@ -196,40 +210,12 @@ impl Form<Line> for Spot {
 
     #[inline(always)]
     fn word(self, index: usize) -> &'static [u8] {
-        let word = match self {
-            Spot::Start(Stage::AtPgas) => "pgas",
-            Spot::Start(Stage::AtObject) => "object",
-            Spot::Start(Stage::AtCallers(_)) => "callers",
-            Spot::Start(Stage::InRound(object, callers, caller)) => {
-                round_word(object.kind(), callers, caller.is_some(), index)
-            }
-            Spot::Version => "1",
-            Spot::Kind => kind_word(kind_at(index)),
-            Spot::Try(kind) => call_word(kind, index),
-            Spot::Row { .. } | Spot::Whole(_) => "",
-        };
-        word.as_bytes()
+        self.choice(index).0.as_bytes()
     }
 
     #[inline(always)]
     fn after_word(self, index: usize) -> Self {
-        match self {
-            Spot::Start(Stage::AtPgas) => Spot::Version,
-            Spot::Start(Stage::AtObject) => Spot::Kind,
-            Spot::Start(Stage::AtCallers(object)) => {
-                row_spot(Row::Callers { object }, Numbers::Zero)
-            }
-            Spot::Start(Stage::InRound(object, callers, caller)) => {
-                round_leads(object.kind(), callers, caller.is_some(), index)
-            }
-            Spot::Version => Spot::Whole(Line::Pgas),
-            Spot::Kind => {
-                let kind = kind_at(index);
-                row_spot(Row::Object { kind }, Numbers::Zero)
-            }
-            Spot::Try(kind) => call_spot(kind, index, true),
-            Spot::Row { .. } | Spot::Whole(_) => self,
-        }
+        self.choice(index).1
     }
 
     #[inline(always)]

@@ -3,7 +3,8 @@
 //! A row is a line but for its numbers. That of a call is the number of the call's word among those of its
 //! kind: so another call is a line of its kind's two functions here.
 ghost use Rattle.std.specs.Prelude.{◌≡◌};
-ghost use Rattle.script_text.specs.Rows.{count, nth, with_number, kind_word, list_call, bag_call, deque_call, call_of, list_parts, bag_parts, deque_parts, call_word, call_numbers, object_of, object_numbers, numbers_of, made, IsMakeable, IsMakeableObject};
+ghost use Rattle.script_text.specs.Rows.{count, nth, with_number, list_call, bag_call, deque_call, call_of, list_parts, bag_parts, deque_parts, call_parts, call_numbers, object_of, object_parts, line_parts, numbers_of, made, IsMakeable, IsMakeableObject};
+ghost use Rattle.script_text.specs.declared.rows.Numbers.TheVariants.{Three};
 
 use crate::lines::{Kind, Line};
 use crate::scripts::{Call, ObjectLine};
@@ -73,17 +74,6 @@ pub enum Row {
     Call { kind: Kind, word: usize, once: bool },
 }
 
-/// The word behind `object`.
-pub fn kind_word(kind: Kind) -> &'static str
-    ensures { result.now ≡ kind_word kind }
-{
-    match kind {
-        Kind::List => "list",
-        Kind::Bag => "bag",
-        Kind::Deque => "deque",
-    }
-}
-
 // ---- calls, by the numbers of their words: those come first that come often
 
 #[inline(always)]
@@ -126,7 +116,7 @@ fn deque_call(word: usize, numbers: Numbers) -> DequeCall
 }
 
 #[inline(always)]
-pub fn call_of(kind: Kind, word: usize, once: bool, numbers: Numbers) -> Call
+fn call_of(kind: Kind, word: usize, once: bool, numbers: Numbers) -> Call
     ensures { result ≡ call_of kind word once numbers }
 {
     match kind {
@@ -186,8 +176,8 @@ fn deque_parts(call: DequeCall) -> (&'static str, Numbers)
 }
 
 #[inline(always)]
-pub fn call_parts(call: Call) -> (&'static str, Numbers)
-    ensures word { result.0.now ≡ call_word call }
+fn call_parts(call: Call) -> (&'static str, Numbers)
+    ensures word { result.0.now ≡ (call_parts call).0 }
     ensures numbers { result.1 ≡ call_numbers call }
 {
     match call {
@@ -199,36 +189,50 @@ pub fn call_parts(call: Call) -> (&'static str, Numbers)
 
 // ---- lines
 
-fn object_numbers(object: ObjectLine) -> Numbers
-    ensures { result ≡ object_numbers object }
+fn object_parts(object: ObjectLine) -> (&'static str, Numbers)
+    ensures word { result.0.now ≡ (object_parts object).0 }
+    ensures numbers { result.1 ≡ (object_parts object).1 }
 {
     match object {
         ObjectLine::List {
             locales,
             objects,
             width,
-        } => Numbers::Three(u64::from(locales), u64::from(objects), u64::from(width)),
+        } => ("list", three(locales, objects, width)),
         ObjectLine::Bag {
             locales,
             segments,
             room,
-        } => Numbers::Three(u64::from(locales), u64::from(segments), u64::from(room)),
+        } => ("bag", three(locales, segments, room)),
         ObjectLine::Deque { locales, capacity } => {
-            Numbers::Two(u64::from(locales), u64::from(capacity))
+            (
+                "deque",
+                Numbers::Two(u64::from(locales), u64::from(capacity)),
+            )
         }
     }
 }
 
-/// The numbers of a line.
+fn three(first: u8, second: u32, third: u32) -> Numbers
+    ensures { result ≡ Three first second third }
+{
+    Numbers::Three(u64::from(first), u64::from(second), u64::from(third))
+}
+
+/// The last word of a line, and its numbers.
 #[inline(always)]
-pub fn numbers_of(line: Line) -> Numbers
-    ensures { result ≡ numbers_of line }
+pub fn line_parts(line: Line) -> (&'static str, Numbers)
+    ensures word { result.0.now ≡ (line_parts line).0 }
+    ensures numbers { result.1 ≡ numbers_of line }
 {
     match line {
-        Line::Object(object) => object_numbers(object),
-        Line::Callers(number) | Line::Caller(number) => Numbers::One(u64::from(number)),
-        Line::Call(call) => call_parts(call).1,
-        Line::Pgas | Line::Round | Line::End => Numbers::Zero,
+        Line::Pgas => ("1", Numbers::Zero),
+        Line::Object(object) => object_parts(object),
+        Line::Callers(number) => ("callers", Numbers::One(u64::from(number))),
+        Line::Caller(number) => ("caller", Numbers::One(u64::from(number))),
+        Line::Round => ("round", Numbers::Zero),
+        Line::Call(call) => call_parts(call),
+        Line::End => ("end", Numbers::Zero),
     }
 }
 

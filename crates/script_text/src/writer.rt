@@ -1,13 +1,13 @@
 ghost use Rattle.std.specs.Prelude.{◌≡◌, ◌<◌, ◌++◌, ◌∷◌, [], OnOk, IfOk, string_bytes, map, decimal};
 ghost use Rattle.line_text.specs.Words.{spaced, words_line};
 ghost use Rattle.script_text.specs.Replies.{reply_text, caller_text, left_text, replies_text};
-ghost use Rattle.script_text.specs.Rows.{is_once, listed, words_of, written_line};
+ghost use Rattle.script_text.specs.Rows.{listed, words_of, written_line};
 ghost use Rattle.script_text.specs.ScriptText.{HasScript};
 ghost use Rattle.script_text.specs.Scripts.{written, written_head, plain_script, IsValid, written_calls, plain_round, written_callers, written_rounds};
 
 use crate::lines::Line;
 use crate::replies::{Left, Replies, Reply};
-use crate::rows::{Numbers, call_parts, kind_word, numbers_of};
+use crate::rows::{Numbers, line_parts};
 use crate::scripts::{Call, ObjectLine, Round, Script};
 use itoa::Buffer;
 use std::alloc::{AllocError, Global};
@@ -91,15 +91,14 @@ pub fn write_replies(alloc: Global, replies: &Replies) -> Result<String, AllocEr
 fn push_words(text: &mut String, line: Line) -> Result<(), AllocError>
     ensures { OnOk result (string_bytes text.new ≡ string_bytes text.old ++ words_line (words_of line)) }
 {
+    let (word, _) = line_parts(line);
     match line {
         Line::Pgas => text.push_str("pgas 1"),
-        Line::Object(object) => push_both(text, "object ", kind_word(object.kind())),
-        Line::Callers(_) => text.push_str("callers"),
-        Line::Caller(_) => text.push_str("caller"),
-        Line::Round => text.push_str("round"),
-        Line::Call(call) if is_once(call) => push_both(text, "try ", call_parts(call).0),
-        Line::Call(call) => text.push_str(call_parts(call).0),
-        Line::End => text.push_str("end"),
+        Line::Object(_) => push_both(text, "object ", word),
+        Line::Call(Call::Bag { once: true, .. } | Call::Deque { once: true, .. }) => {
+            push_both(text, "try ", word)
+        }
+        _ => text.push_str(word),
     }
 }
 
@@ -108,15 +107,6 @@ fn push_both(text: &mut String, one: &str, other: &str) -> Result<(), AllocError
 {
     text.push_str(one)?;
     text.push_str(other)
-}
-
-fn is_once(call: Call) -> bool
-    ensures { result ≡ is_once call }
-{
-    match call {
-        Call::List { .. } => false,
-        Call::Bag { once, .. } | Call::Deque { once, .. } => once,
-    }
 }
 
 /// Adds numbers, with a space before each.
@@ -136,7 +126,7 @@ fn push_whole(text: &mut String, line: Line) -> Result<(), AllocError>
     ensures { OnOk result (string_bytes text.new ≡ string_bytes text.old ++ written_line line) }
 {
     push_words(text, line)?;
-    push_numbers(text, numbers_of(line))?;
+    push_numbers(text, line_parts(line).1)?;
     text.push_str("\n")
 }
 
