@@ -3,7 +3,8 @@
 //! A row is a line but for its numbers. That of a call is the number of the call's word among those of its
 //! kind: so another call is a line of its kind's two functions here.
 ghost use Rattle.std.specs.Prelude.{◌≡◌};
-ghost use Rattle.script_text.specs.Rows.{count, nth, with_number, list_call, bag_call, deque_call, call_of, list_parts, bag_parts, deque_parts, call_parts, call_numbers, object_of, object_parts, line_parts, numbers_of, made, IsMakeable, IsMakeableObject};
+ghost use Rattle.script_text.specs.Rows.{count, nth, with_number, call_of, list_parts, bag_parts, deque_parts, call_parts, call_numbers, object_of, object_parts, line_parts, numbers_of, made, IsMakeable, IsMakeableObject};
+ghost use Rattle.script_text.specs.declared.scripts.Call.TheVariants.{List as OfList, Bag as OfBag, Deque as OfDeque};
 ghost use Rattle.script_text.specs.declared.rows.Numbers.TheVariants.{Three};
 
 use crate::lines::{Kind, Line};
@@ -76,61 +77,43 @@ pub enum Row {
 
 // ---- calls, by the numbers of their words: those come first that come often
 
-#[inline(always)]
-fn list_call(word: usize, numbers: Numbers) -> ListCall
-    ensures { result ≡ list_call word numbers }
+fn list(call: ListCall) -> Call
+    ensures { result ≡ OfList call }
 {
-    let (at, old, new) = numbers.three();
-    match word {
-        0 => ListCall::Read { at },
-        1 => ListCall::Write { at, value: old },
-        2 => ListCall::Swap { at, old, new },
-        3 => ListCall::Add { at, value: old },
-        4 => ListCall::Grow { to: at },
-        _ => ListCall::Len,
-    }
+    Call::List { call }
 }
 
-#[inline(always)]
-fn bag_call(word: usize, numbers: Numbers) -> BagCall
-    ensures { result ≡ bag_call word numbers }
+fn bag(call: BagCall, once: bool) -> Call
+    ensures { result ≡ OfBag call once }
 {
-    let (item, _, _) = numbers.three();
-    match word {
-        0 => BagCall::Add { item },
-        _ => BagCall::Remove,
-    }
+    Call::Bag { call, once }
 }
 
-#[inline(always)]
-fn deque_call(word: usize, numbers: Numbers) -> DequeCall
-    ensures { result ≡ deque_call word numbers }
+fn deque(call: DequeCall, once: bool) -> Call
+    ensures { result ≡ OfDeque call once }
 {
-    let (item, _, _) = numbers.three();
-    match word {
-        0 => DequeCall::PushBack { item },
-        1 => DequeCall::PushFront { item },
-        2 => DequeCall::PopBack,
-        _ => DequeCall::PopFront,
-    }
+    Call::Deque { call, once }
 }
 
 #[inline(always)]
 fn call_of(kind: Kind, word: usize, once: bool, numbers: Numbers) -> Call
     ensures { result ≡ call_of kind word once numbers }
 {
-    match kind {
-        Kind::List => Call::List {
-            call: list_call(word, numbers),
-        },
-        Kind::Bag => Call::Bag {
-            call: bag_call(word, numbers),
-            once,
-        },
-        Kind::Deque => Call::Deque {
-            call: deque_call(word, numbers),
-            once,
-        },
+    let (at, old, new) = numbers.three();
+    let item = at;
+    match (kind, word) {
+        (Kind::List, 0) => list(ListCall::Read { at }),
+        (Kind::List, 1) => list(ListCall::Write { at, value: old }),
+        (Kind::List, 2) => list(ListCall::Swap { at, old, new }),
+        (Kind::List, 3) => list(ListCall::Add { at, value: old }),
+        (Kind::List, 4) => list(ListCall::Grow { to: at }),
+        (Kind::List, _) => list(ListCall::Len),
+        (Kind::Bag, 0) => bag(BagCall::Add { item }, once),
+        (Kind::Bag, _) => bag(BagCall::Remove, once),
+        (Kind::Deque, 0) => deque(DequeCall::PushBack { item }, once),
+        (Kind::Deque, 1) => deque(DequeCall::PushFront { item }, once),
+        (Kind::Deque, 2) => deque(DequeCall::PopBack, once),
+        (Kind::Deque, _) => deque(DequeCall::PopFront, once),
     }
 }
 

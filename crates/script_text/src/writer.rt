@@ -94,19 +94,12 @@ fn push_words(text: &mut String, line: Line) -> Result<(), AllocError>
     let (word, _) = line_parts(line);
     match line {
         Line::Pgas => text.push_str("pgas 1"),
-        Line::Object(_) => push_both(text, "object ", word),
+        Line::Object(_) => write!(text, "object {word}"),
         Line::Call(Call::Bag { once: true, .. } | Call::Deque { once: true, .. }) => {
-            push_both(text, "try ", word)
+            write!(text, "try {word}")
         }
         _ => text.push_str(word),
     }
-}
-
-fn push_both(text: &mut String, one: &str, other: &str) -> Result<(), AllocError>
-    ensures { OnOk result (string_bytes text.new ≡ string_bytes text.old ++ (one.now ++ other.now)) }
-{
-    text.push_str(one)?;
-    text.push_str(other)
 }
 
 /// Adds numbers, with a space before each.
