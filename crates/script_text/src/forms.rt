@@ -1,8 +1,8 @@
 ghost use Rattle.std.specs.Prelude.{◌≡◌, ◌<◌, [], length, slice_index_or};
-ghost use Rattle.script_text.specs.Forms.{IsSpot, IsFront, script_grammar, kind_at, calls_at, tries, round_start, round_leads, words_at, after_word, row_spot, between, object_bounds, bounds_of};
+ghost use Rattle.script_text.specs.Forms.{IsSpot, IsFront, script_grammar, kind_at, calls_at, tries, round_start, round_leads, row_spot, between, object_bounds, bounds_of};
 ghost use Rattle.script_text.specs.Rows.{IsMakeable, row_word};
 ghost use Rattle.script_text.specs.declared.rows.Numbers.TheVariants.{Zero};
-ghost use Rattle.script_text.specs.declared.rows.Row.TheVariants.{Object as ObjectRow};
+ghost use Rattle.script_text.specs.declared.rows.Row.TheVariants.{Object as ObjectRow, Call as CallRow};
 ghost use Rattle.script_text.specs.Sound.{script_grammar_sound};
 
 use crate::lines::{Kind, Line, Stage};
@@ -60,38 +60,55 @@ fn tries(kind: Kind, callers: u32, spoken: bool) -> bool
     spoken && !matches!(kind, Kind::List) && callers == 1
 }
 
-/// A word that begins a line of a round, and where it leads.
+/// A word that begins a line of a round.
 #[inline(always)]
-fn round_choice(kind: Kind, callers: u32, spoken: bool, index: usize) -> (&'static str, Spot)
+fn round_word(kind: Kind, callers: u32, spoken: bool, index: usize) -> &'static str
     requires { index < length (round_start spoken kind callers) }
-    ensures word { result.0.now ≡ slice_index_or (round_start spoken kind callers) index [] }
-    ensures leads { result.1 ≡ round_leads spoken kind callers index }
+    ensures { result.now ≡ slice_index_or (round_start spoken kind callers) index [] }
 {
     let calls = calls_at(kind, spoken);
     if index < calls {
-        return row_choice(Row::Call {
-            kind,
-            word: index,
-            once: false,
-        });
+        return row_word(call_row(kind, index, false));
     }
     match index - calls {
-        0 => row_choice(Row::Caller { callers }),
-        1 => ("round", Spot::Whole(Line::Round)),
-        2 => ("end", Spot::Whole(Line::End)),
-        _ => ("try", Spot::Try(kind)),
+        0 => "caller",
+        1 => "round",
+        2 => "end",
+        _ => "try",
     }
 }
 
-/// The last word of a row, and where it leads.
+/// Where it leads.
 #[inline(always)]
-fn row_choice(row: Row) -> (&'static str, Spot)
-    requires { IsMakeable row Zero }
-    ensures word { result.0.now ≡ row_word row }
-    ensures leads { result.1 ≡ row_spot row Zero }
+fn round_leads(kind: Kind, callers: u32, spoken: bool, index: usize) -> Spot
+    ensures { result ≡ round_leads spoken kind callers index }
 {
-    let (word, _) = line_parts(made(row, Numbers::Zero));
-    (word, row_spot(row, Numbers::Zero))
+    let calls = calls_at(kind, spoken);
+    if index < calls {
+        return row_spot(call_row(kind, index, false), Numbers::Zero);
+    }
+    match index - calls {
+        0 => row_spot(Row::Caller { callers }, Numbers::Zero),
+        1 => Spot::Whole(Line::Round),
+        2 => Spot::Whole(Line::End),
+        _ => Spot::Try(kind),
+    }
+}
+
+#[inline(always)]
+fn call_row(kind: Kind, word: usize, once: bool) -> Row
+    ensures { result ≡ CallRow kind word once }
+{
+    Row::Call { kind, word, once }
+}
+
+/// The last word of a row.
+#[inline(always)]
+fn row_word(row: Row) -> &'static str
+    requires { IsMakeable row Zero }
+    ensures { result.now ≡ row_word row }
+{
+    line_parts(made(row, Numbers::Zero)).0
 }
 
 /// Behind these numbers of a row.
@@ -158,35 +175,6 @@ fn bounds_of(row: Row, numbers: Numbers) -> Bounds
     }
 }
 
-impl Spot {
-    /// The word of this number that may come next, and where it leads.
-    #[inline(always)]
-    fn choice(self, index: usize) -> (&'static str, Spot)
-        requires { index < length (words_at self) }
-        ensures word { result.0.now ≡ slice_index_or (words_at self) index [] }
-        ensures leads { result.1 ≡ after_word self index }
-    {
-        match self {
-            Spot::Start(Stage::AtPgas) => ("pgas", Spot::Version),
-            Spot::Start(Stage::AtObject) => ("object", Spot::Kind),
-            Spot::Start(Stage::AtCallers(object)) => row_choice(Row::Callers { object }),
-            Spot::Start(Stage::InRound(object, callers, caller)) => {
-                round_choice(object.kind(), callers, caller.is_some(), index)
-            }
-            Spot::Version => ("1", Spot::Whole(Line::Pgas)),
-            Spot::Kind => row_choice(Row::Object {
-                kind: kind_at(index),
-            }),
-            Spot::Try(kind) => row_choice(Row::Call {
-                kind,
-                word: index,
-                once: true,
-            }),
-            Spot::Row { .. } | Spot::Whole(_) => ("", self),
-        }
-    }
-}
-
 impl Form<Line> for Spot {
     ghost grammar = { script_grammar };
 
@@ -210,12 +198,40 @@ impl Form<Line> for Spot {
 
     #[inline(always)]
     fn word(self, index: usize) -> &'static [u8] {
-        self.choice(index).0.as_bytes()
+        let word = match self {
+            Spot::Start(Stage::AtPgas) => "pgas",
+            Spot::Start(Stage::AtObject) => "object",
+            Spot::Start(Stage::AtCallers(_)) => "callers",
+            Spot::Start(Stage::InRound(object, callers, caller)) => {
+                round_word(object.kind(), callers, caller.is_some(), index)
+            }
+            Spot::Version => "1",
+            Spot::Kind => row_word(Row::Object {
+                kind: kind_at(index),
+            }),
+            Spot::Try(kind) => row_word(call_row(kind, index, false)),
+            Spot::Row { .. } | Spot::Whole(_) => "",
+        };
+        word.as_bytes()
     }
 
     #[inline(always)]
     fn after_word(self, index: usize) -> Self {
-        self.choice(index).1
+        let row = match self {
+            Spot::Start(Stage::AtPgas) => return Spot::Version,
+            Spot::Start(Stage::AtObject) => return Spot::Kind,
+            Spot::Start(Stage::AtCallers(object)) => Row::Callers { object },
+            Spot::Start(Stage::InRound(object, callers, caller)) => {
+                return round_leads(object.kind(), callers, caller.is_some(), index);
+            }
+            Spot::Version => return Spot::Whole(Line::Pgas),
+            Spot::Kind => Row::Object {
+                kind: kind_at(index),
+            },
+            Spot::Try(kind) => call_row(kind, index, true),
+            Spot::Row { .. } | Spot::Whole(_) => return self,
+        };
+        row_spot(row, Numbers::Zero)
     }
 
     #[inline(always)]
