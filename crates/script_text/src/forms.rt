@@ -2,7 +2,7 @@ ghost use Rattle.std.specs.Prelude.{◌≡◌, ◌<◌, [], length, slice_index_
 ghost use Rattle.script_text.specs.Forms.{IsSpot, IsFront, script_grammar, kind_at, calls_at, tries, round_start, round_leads, row_spot, between, object_bounds, bounds_of};
 ghost use Rattle.script_text.specs.Rows.{IsMakeable, row_word};
 ghost use Rattle.script_text.specs.declared.rows.Numbers.TheVariants.{Zero};
-ghost use Rattle.script_text.specs.declared.rows.Row.TheVariants.{Object as ObjectRow, Call as CallRow};
+ghost use Rattle.script_text.specs.declared.rows.Row.TheVariants.{Object as ObjectRow};
 ghost use Rattle.script_text.specs.Sound.{script_grammar_sound};
 
 use crate::lines::{Kind, Line, Stage};
@@ -68,7 +68,7 @@ fn round_word(kind: Kind, callers: u32, spoken: bool, index: usize) -> &'static 
 {
     let calls = calls_at(kind, spoken);
     if index < calls {
-        return row_word(call_row(kind, index, false));
+        return row_word(Row::Call(kind, index, false));
     }
     match index - calls {
         0 => "caller",
@@ -85,21 +85,14 @@ fn round_leads(kind: Kind, callers: u32, spoken: bool, index: usize) -> Spot
 {
     let calls = calls_at(kind, spoken);
     if index < calls {
-        return row_spot(call_row(kind, index, false), Numbers::Zero);
+        return row_spot(Row::Call(kind, index, false), Numbers::Zero);
     }
     match index - calls {
-        0 => row_spot(Row::Caller { callers }, Numbers::Zero),
+        0 => row_spot(Row::Caller(callers), Numbers::Zero),
         1 => Spot::Whole(Line::Round),
         2 => Spot::Whole(Line::End),
         _ => Spot::Try(kind),
     }
-}
-
-#[inline(always)]
-fn call_row(kind: Kind, word: usize, once: bool) -> Row
-    ensures { result ≡ CallRow kind word once }
-{
-    Row::Call { kind, word, once }
 }
 
 /// The last word of a row.
@@ -168,10 +161,10 @@ fn bounds_of(row: Row, numbers: Numbers) -> Bounds
     ensures { result ≡ bounds_of row numbers }
 {
     match row {
-        Row::Object { kind } => object_bounds(kind, numbers),
-        Row::Callers { object } => between(1, u64::from(object.most_callers())),
-        Row::Caller { callers } => between(0, u64::from(callers.saturating_sub(1))),
-        Row::Call { .. } => between(0, u64::MAX),
+        Row::Object(kind) => object_bounds(kind, numbers),
+        Row::Callers(object) => between(1, u64::from(object.most_callers())),
+        Row::Caller(callers) => between(0, u64::from(callers.saturating_sub(1))),
+        Row::Call(..) => between(0, u64::MAX),
     }
 }
 
@@ -206,10 +199,8 @@ impl Form<Line> for Spot {
                 round_word(object.kind(), callers, caller.is_some(), index)
             }
             Spot::Version => "1",
-            Spot::Kind => row_word(Row::Object {
-                kind: kind_at(index),
-            }),
-            Spot::Try(kind) => row_word(call_row(kind, index, false)),
+            Spot::Kind => row_word(Row::Object(kind_at(index))),
+            Spot::Try(kind) => row_word(Row::Call(kind, index, false)),
             Spot::Row { .. } | Spot::Whole(_) => "",
         };
         word.as_bytes()
@@ -220,15 +211,13 @@ impl Form<Line> for Spot {
         let row = match self {
             Spot::Start(Stage::AtPgas) => return Spot::Version,
             Spot::Start(Stage::AtObject) => return Spot::Kind,
-            Spot::Start(Stage::AtCallers(object)) => Row::Callers { object },
+            Spot::Start(Stage::AtCallers(object)) => Row::Callers(object),
             Spot::Start(Stage::InRound(object, callers, caller)) => {
                 return round_leads(object.kind(), callers, caller.is_some(), index);
             }
             Spot::Version => return Spot::Whole(Line::Pgas),
-            Spot::Kind => Row::Object {
-                kind: kind_at(index),
-            },
-            Spot::Try(kind) => call_row(kind, index, true),
+            Spot::Kind => Row::Object(kind_at(index)),
+            Spot::Try(kind) => Row::Call(kind, index, true),
             Spot::Row { .. } | Spot::Whole(_) => return self,
         };
         row_spot(row, Numbers::Zero)

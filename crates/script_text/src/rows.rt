@@ -66,13 +66,13 @@ impl Numbers {
 /// A line but for its numbers.
 #[derive(Clone, Copy, Debug, PartialEq, Eq)]
 pub enum Row {
-    Object { kind: Kind },
+    Object(Kind),
     /// Where the script is of this object.
-    Callers { object: ObjectLine },
+    Callers(ObjectLine),
     /// Where there are so many callers.
-    Caller { callers: u32 },
-    /// The call whose word has this number. With `once` it is tried once.
-    Call { kind: Kind, word: usize, once: bool },
+    Caller(u32),
+    /// The call of this kind whose word has this number, and whether it is tried once.
+    Call(Kind, usize, bool),
 }
 
 // ---- calls, by the numbers of their words: those come first that come often
@@ -251,9 +251,9 @@ pub fn made(row: Row, numbers: Numbers) -> Line
 {
     let (first, _, _) = numbers.three();
     match row {
-        Row::Object { kind } => Line::Object(object_of(kind, numbers)),
-        Row::Callers { .. } => Line::Callers(first as u32),
-        Row::Caller { .. } => Line::Caller(first as u32),
-        Row::Call { kind, word, once } => Line::Call(call_of(kind, word, once, numbers)),
+        Row::Object(kind) => Line::Object(object_of(kind, numbers)),
+        Row::Callers(_) => Line::Callers(first as u32),
+        Row::Caller(_) => Line::Caller(first as u32),
+        Row::Call(kind, word, once) => Line::Call(call_of(kind, word, once, numbers)),
     }
 }
