@@ -1,5 +1,5 @@
 ghost use Rattle.std.specs.Prelude.{◌≡◌, ◌<◌, [], length, slice_index_or};
-ghost use Rattle.script_text.specs.Forms.{IsSpot, IsFront, script_grammar, kind_at, calls_at, tries, round_start, round_leads, row_spot, between, object_bounds, bounds_of};
+ghost use Rattle.script_text.specs.Forms.{IsSpot, IsFront, script_grammar, kind_at, calls_at, round_start, round_leads, row_spot, between, object_bounds, bounds_of};
 ghost use Rattle.script_text.specs.Rows.{IsMakeable, row_word};
 ghost use Rattle.script_text.specs.declared.rows.Numbers.TheVariants.{Zero};
 ghost use Rattle.script_text.specs.declared.rows.Row.TheVariants.{Object as ObjectRow};
@@ -51,13 +51,6 @@ fn calls_at(kind: Kind, spoken: bool) -> usize
         Kind::Bag => 2,
         Kind::Deque => 4,
     }
-}
-
-/// A call of a bag or a deque may be tried once by a caller that is alone.
-fn tries(kind: Kind, callers: u32, spoken: bool) -> bool
-    ensures { result ≡ tries spoken kind callers }
-{
-    spoken && !matches!(kind, Kind::List) && callers == 1
 }
 
 /// A word that begins a line of a round.
@@ -180,7 +173,9 @@ impl Form<Line> for Spot {
         match self {
             Spot::Start(Stage::InRound(object, callers, caller)) => {
                 let (kind, spoken) = (object.kind(), caller.is_some());
-                calls_at(kind, spoken) + 3 + usize::from(tries(kind, callers, spoken))
+                // A call of a bag or a deque may be tried once by a caller that is alone.
+                let tries = spoken && !matches!(kind, Kind::List) && callers == 1;
+                calls_at(kind, spoken) + 3 + usize::from(tries)
             }
             Spot::Start(_) | Spot::Version => 1,
             Spot::Kind => 3,
