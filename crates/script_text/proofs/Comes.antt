@@ -1,37 +1,39 @@
 -- A line that is read may come where it stands, and is no shorter than it is written.
-use Rattle.std.proofs.Common.{◌≡◌, ℕ, zero, suc, ◌+◌, ◌-◌, ◌<◌, ◌≤◌, ◌^◌, ◌==◌, nat_lt, Bool, true, false, if◌then◌else◌, List, [], ◌∷◌, ◌++◌, length, map, take, slice_index_or, Option, Some, None, Ok, codes, decimal, refl, ap, sym, ◌∙◌, arith, subst, length-append, append-nil, append_assoc}
-use Rattle.std.proofs.lemmas.Bool.{eqb-true, ltb-true, ltb-false}
-use Rattle.std.proofs.lemmas.List.{length-map, get_or_append_left, get_or-append_right, get_or-map, map-append, length_push}
+use Rattle.std.proofs.Common.{◌≡◌, ℕ, zero, suc, ◌+◌, ◌-◌, ◌<◌, ◌≤◌, ◌^◌, ◌==◌, nat_lt, Bool, true, false, if◌then◌else◌, List, [], ◌∷◌, ◌++◌, length, map, slice_index_or, Some, is_some, Ok, decimal, refl, ap, sym, ◌∙◌, arith, subst, length-append, append_assoc}
+use Rattle.std.proofs.lemmas.Bool.{eqb-true, eqb-false, ltb-true, ltb-false}
+use Rattle.std.proofs.lemmas.List.{get_or_append_left, get_or-append_right, map-append, length_push}
 use Rattle.std.proofs.lemmas.Option.{none-some, same_Some}
 use Rattle.line_text.specs.declared.forms.Bounds.{Bounds}
 use Rattle.line_text.specs.Lines.{line_says, word_at}
 use Rattle.line_text.specs.Words.{number_behind, spaced, words_line}
-use Rattle.line_text.proofs.Behind.{decimal_short, says_behind, SaysBehind}
+use Rattle.line_text.proofs.Behind.{decimal_short, says_behind}
 use Rattle.script_text.specs.declared.forms.Spot.{Spot}
-use Rattle.script_text.specs.declared.forms.Spot.TheVariants.{Pgas, Version, Object, Kind as AKind, Callers, Body, Try, Row, Whole}
+use Rattle.script_text.specs.declared.forms.Spot.TheVariants.{Start, Version, Kind as AKind, Try, Row as ARow, Whole}
 use Rattle.script_text.specs.declared.lines.Kind.{Kind}
+use Rattle.script_text.specs.declared.lines.Kind.TheVariants.{List as KList, Bag as KBag, Deque as KDeque}
 use Rattle.script_text.specs.declared.lines.Line.{Line}
-use Rattle.script_text.specs.declared.lines.Line.TheVariants.{Pgas as PgasLine, Object as ObjectLine, Callers as CallersLine, Caller as CallerLine, Round as RoundLine, Call as CallLine, End as EndLine}
 use Rattle.script_text.specs.declared.lines.Stage.{Stage}
 use Rattle.script_text.specs.declared.lines.Stage.TheVariants.{AtPgas, AtObject, AtCallers, InRound}
 use Rattle.script_text.specs.declared.rows.Numbers.{Numbers}
-use Rattle.script_text.specs.declared.scripts.ObjectLine.{ObjectLine as AnObject}
-use Rattle.script_text.specs.declared.scripts.Call.{Call}
-use Rattle.script_text.specs.declared.scripts.Call.TheVariants.{List as OfList, Bag as OfBag, Deque as OfDeque}
-use Rattle.seq_objects.specs.declared.lists.ListCall.TheVariants.{Len}
-use Rattle.script_text.specs.Forms.{start_of, row_spot, call_spot, tries, round_words, round_leads, try_leads, object_row, call_at, words_at, body_leads, after_word, bounds_of, bounds_at, row_leads, after_number, says_of, script_grammar, speaker_of, IsStage, IsAt}
-use Rattle.script_text.specs.Fronts.{count_with, few_numbers, listed_made, listed_with, words_made, bounds_sound}
-use Rattle.script_text.specs.Sound.{row_at, word_keeps, number_keeps_at}
-use Rattle.script_text.specs.Lines.{kind_of, MayCome}
-use Rattle.script_text.specs.Rows.{none, listed, with_number, calls_of, tried, is_once, call_word, words_of, with_try, numbers_of, words_with, line_words, written_line, made}
+use Rattle.script_text.specs.declared.rows.Numbers.TheVariants.{Zero}
+use Rattle.script_text.specs.declared.rows.Row.{Row}
+use Rattle.script_text.specs.declared.rows.Row.TheVariants.{Call}
+use Rattle.script_text.specs.Forms.{calls_at, tries, round_words, round_start, call_words, words_at, row_spot, call_spot, behind_calls, round_leads, after_word, bounds_of, bounds_at, after_number, says_of, script_grammar, count_of, IsStage, IsAt}
+use Rattle.script_text.specs.Fronts.{is_made, some_words, count_with, listed_with, few_numbers, listed_made, spot_whole, spot_row, bounds_sound}
+use Rattle.script_text.specs.Sound.{in_row, length_call_words, call_word_at, round_size, word_keeps, number_keeps_at}
+use Rattle.script_text.specs.Lines.{MayCome}
+use Rattle.script_text.specs.Rows.{listed, count, with_number, kind_of, words_of, numbers_of, line_words, written_line, made, row_word}
 
 -- ---- how long the words so far are written, with a space before each
+
+abbrev row_cost : Row → Numbers → ℕ
+row_cost row n = length (spaced (words_of (made row Zero) ++ map decimal (listed n)))
 
 abbrev cost : Spot → ℕ
 cost Version = 5
 cost AKind = 7
 cost (Try kind) = 4
-cost (Row row most numbers) = length (spaced (words_with row numbers))
+cost (ARow row n) = row_cost row n
 cost (Whole line) = length (spaced (line_words line))
 cost spot = 0
 
@@ -39,182 +41,113 @@ spaced_append : (words others : List (List ℕ)) → length (spaced (words ++ ot
 spaced_append [] others = omega arith
 spaced_append (word ∷ words) others = omega (arith, length-append word (spaced (words ++ others)), length-append word (spaced words), spaced_append words others)
 
-row_cost : (row : Line) (most : ℕ) → cost (row_spot row most) ≡ length (spaced (words_of row))
-row_cost row most = by ((numbers_of row).count == 0) refl
+spot_cost : (row : Row) (n : Numbers) → count n ≤ count_of row → cost (row_spot row n) ≡ row_cost row n
+spot_cost row n few = by (count n == count_of row) refl
   where
-    nothing : (words : List (List ℕ)) → words ≡ [] → length (spaced (words_of row ++ words)) ≡ length (spaced (words_of row))
-    nothing words is = ap (λ (w : List (List ℕ)). length (spaced (words_of row ++ w))) is ∙ ap (λ (w : List (List ℕ)). length (spaced w)) (append-nil (words_of row))
-
-    by : (b : Bool) → ((numbers_of row).count == 0) ≡ b → cost (if b then Whole row else Row row most none) ≡ length (spaced (words_of row))
+    by : (b : Bool) → (count n == count_of row) ≡ b → cost (row_spot row n) ≡ row_cost row n
     by true is =
-        let n = numbers_of row in
-        nothing (map decimal (listed n)) (ap (λ count. map decimal (take count (n.first ∷ n.second ∷ n.third ∷ []))) (eqb-true n.count 0 is))
-    by false is = nothing [] refl
+        let whole = eqb-true (count n) (count_of row) is in
+        ap cost (spot_whole row n whole)
+        ∙ (ap (λ (words : List (List ℕ)). length (spaced (words ++ map decimal (listed (numbers_of (made row n)))))) (is_made row n).2
+        ∙ ap (λ (l : List ℕ). length (spaced (words_of (made row Zero) ++ map decimal l))) (listed_made row n whole))
+    by false is = let other = eqb-false (count n) (count_of row) is in ap cost (spot_row row n (omega (arith, few, other)))
 
-call_cost : (call : Call) → is_once call ≡ false → cost (call_spot call) ≡ 1 + length (call_word call)
-call_cost call once =
-    let words : length (spaced (words_of (CallLine call))) ≡ length (spaced (call_word call ∷ [])) = ap (λ b. length (spaced (with_try b (call_word call ∷ [])))) once in
-    omega (arith, row_cost (CallLine call) (2 ^ 64 - 1), words, length-append (call_word call) [])
+-- a call, also behind the word `try`
+call_costs : (kind : Kind) (word : ℕ) → (cost (call_spot kind word false) ≡ 1 + length (row_word (Call kind word false))) × (cost (call_spot kind word true) ≤ 5 + length (row_word (Call kind word false)))
+call_costs KList word =
+    let one = length-append (row_word (Call KList word false)) [] in
+    (omega (arith, spot_cost (Call KList word false) Zero (omega arith), one), omega (arith, spot_cost (Call KList word true) Zero (omega arith), one))
+call_costs KBag word =
+    let one = length-append (row_word (Call KBag word false)) [] in
+    (omega (arith, spot_cost (Call KBag word false) Zero (omega arith), one), omega (arith, spot_cost (Call KBag word true) Zero (omega arith), one))
+call_costs KDeque word =
+    let one = length-append (row_word (Call KDeque word false)) [] in
+    (omega (arith, spot_cost (Call KDeque word false) Zero (omega arith), one), omega (arith, spot_cost (Call KDeque word true) Zero (omega arith), one))
 
-tried_words : (call : Call) → length (spaced (words_of (CallLine (tried call)))) ≤ 5 + length (call_word call)
-tried_words (OfList call) = omega (arith, length-append (call_word (OfList call)) [])
-tried_words (OfBag call once) = omega (arith, length-append (call_word (OfBag call once)) [])
-tried_words (OfDeque call once) = omega (arith, length-append (call_word (OfDeque call once)) [])
+behind_costs : (kind : Kind) (callers index : ℕ) (b : Bool) → index < length (round_words b) → cost (behind_calls kind callers index) ≤ 1 + length (slice_index_or (round_words b) index [])
+behind_costs kind callers zero true within = omega arith
+behind_costs kind callers zero false within = omega arith
+behind_costs kind callers (suc zero) true within = omega arith
+behind_costs kind callers (suc zero) false within = omega arith
+behind_costs kind callers (suc (suc zero)) true within = omega arith
+behind_costs kind callers (suc (suc zero)) false within = omega arith
+behind_costs kind callers (suc (suc (suc zero))) true within = omega arith
+behind_costs kind callers (suc (suc (suc (suc index)))) true within = absurd (omega (arith, within))
+behind_costs kind callers (suc (suc (suc index))) false within = absurd (omega (arith, within))
 
-call_word_at : (speaker : Option Kind) (index : ℕ) → index < length (calls_of speaker) → slice_index_or (map call_word (calls_of speaker)) index [] ≡ call_word (call_at speaker index)
-call_word_at speaker index within = word_of (calls_of speaker) index within
+round_costs : (spoken : Bool) (kind : Kind) (callers index : ℕ) → index < length (round_start spoken kind callers) → cost (round_leads spoken kind callers index) ≤ 1 + length (slice_index_or (round_start spoken kind callers) index [])
+round_costs spoken kind callers index within = by (nat_lt index calls) refl
   where
-    word_of : (calls : List Call) (index : ℕ) → index < length calls → slice_index_or (map call_word calls) index [] ≡ call_word (slice_index_or calls index (OfList Len))
-    word_of [] index within = absurd (omega (arith, within))
-    word_of (call ∷ calls) zero within = refl
-    word_of (call ∷ calls) (suc index) within = word_of calls index (omega (arith, within))
-
-round_costs : (speaker : Option Kind) (callers index : ℕ) (b : Bool) → index < length (round_words b) → cost (round_leads speaker callers index) ≤ 1 + length (slice_index_or (round_words b) index [])
-round_costs speaker callers zero true within = omega arith
-round_costs speaker callers zero false within = omega arith
-round_costs speaker callers (suc zero) true within = omega arith
-round_costs speaker callers (suc zero) false within = omega arith
-round_costs speaker callers (suc (suc zero)) true within = omega arith
-round_costs speaker callers (suc (suc zero)) false within = omega arith
-round_costs None callers (suc (suc (suc zero))) true within = omega arith
-round_costs (Some kind) callers (suc (suc (suc zero))) true within = omega arith
-round_costs speaker callers (suc (suc (suc (suc index)))) true within = absurd (omega (arith, within))
-round_costs speaker callers (suc (suc (suc index))) false within = absurd (omega (arith, within))
-
-body_costs : (object : AnObject) (callers : ℕ) (caller : Option ℕ) (index : ℕ) → index < length (words_at (Body (speaker_of object caller) callers))
-    → cost (body_leads (speaker_of object caller) callers index) ≤ 1 + length (word_at script_grammar (Body (speaker_of object caller) callers) index)
-body_costs object callers caller index within = by (nat_lt index (length (calls_of speaker))) refl
-  where
-    speaker : Option Kind
-    speaker = speaker_of object caller
+    calls : ℕ
+    calls = calls_at spoken kind
 
     words : List (List ℕ)
-    words = map call_word (calls_of speaker)
+    words = call_words kind 0 calls
 
-    size : length words ≡ length (calls_of speaker)
-    size = length-map (calls_of speaker) call_word
+    behind : List (List ℕ)
+    behind = round_words (tries spoken kind callers)
 
-    called : (caller : Option ℕ) → index < length (calls_of (speaker_of object caller)) → is_once (call_at (speaker_of object caller) index) ≡ false
-    called None within = absurd (omega (arith, within))
-    called (Some caller) within = (row_at object index within).1
+    size : length words ≡ calls
+    size = length_call_words kind 0 calls
 
-    by : (b : Bool) → nat_lt index (length (calls_of speaker)) ≡ b
-        → cost (if b then call_spot (call_at speaker index) else round_leads speaker callers (index - length (calls_of speaker))) ≤ 1 + length (word_at script_grammar (Body speaker callers) index)
+    by : (b : Bool) → nat_lt index calls ≡ b → cost (if b then call_spot kind index false else behind_calls kind callers (index - calls)) ≤ 1 + length (slice_index_or (words ++ behind) index [])
     by true is =
-        let below = ltb-true index (length (calls_of speaker)) is in
-        omega (
-          arith,
-          call_cost (call_at speaker index) (called caller below),
-          ap length (get_or_append_left words (round_words (tries speaker callers)) [] index (omega (arith, below, size)) ∙ call_word_at speaker index below),
-        )
+        let below = ltb-true index calls is in
+        omega (arith, (call_costs kind index).0, ap length (get_or_append_left words behind [] index (omega (arith, below, size)) ∙ call_word_at kind calls index below))
     by false is =
-        let above = ltb-false index (length (calls_of speaker)) is in
-        omega (
-          arith,
-          round_costs speaker callers (index - length (calls_of speaker)) (tries speaker callers) (omega (arith, above, within, size, length-append words (round_words (tries speaker callers)))),
-          ap length (get_or-append_right words (round_words (tries speaker callers)) (length (calls_of speaker)) index [] size above),
-        )
+        let above = ltb-false index calls is in
+        omega (arith, behind_costs kind callers (index - calls) (tries spoken kind callers) (omega (arith, above, within, round_size spoken kind callers)), ap length (get_or-append_right words behind calls index [] size above))
 
 word_costs : (stage : Stage) (spot : Spot) (index : ℕ) → IsAt stage spot → index < length (words_at spot) → cost (after_word spot index) ≤ cost spot + 1 + length (word_at script_grammar spot index)
-word_costs stage Pgas zero is within = omega arith
-word_costs stage Pgas (suc index) is within = absurd (omega (arith, within))
+word_costs stage (Start AtPgas) zero is within = omega arith
+word_costs stage (Start AtObject) zero is within = omega arith
+word_costs stage (Start (AtCallers object)) zero is within = omega arith
+word_costs stage (Start (InRound object callers caller)) index is within = omega (arith, round_costs (is_some caller) (kind_of object) callers index within)
 word_costs stage Version zero is within = omega arith
-word_costs stage Version (suc index) is within = absurd (omega (arith, within))
-word_costs stage Object zero is within = omega arith
-word_costs stage Object (suc index) is within = absurd (omega (arith, within))
 word_costs stage AKind zero is within = omega arith
 word_costs stage AKind (suc zero) is within = omega arith
 word_costs stage AKind (suc (suc zero)) is within = omega arith
-word_costs stage AKind (suc (suc (suc index))) is within = absurd (omega (arith, within))
-word_costs stage (Callers most) zero is within = omega arith
-word_costs stage (Callers most) (suc index) is within = absurd (omega (arith, within))
-word_costs stage (Body speaker callers) index is within =
-    let own = sym is.4 in
-    let costs = subst (λ (s : Option Kind). index < length (words_at (Body s callers)) → cost (body_leads s callers index) ≤ 1 + length (word_at script_grammar (Body s callers) index)) own (body_costs is.0 callers is.1 index) in
-    omega (arith, costs within)
 word_costs stage (Try kind) index is within =
-    let below : index < length (calls_of (Some kind)) = omega (arith, within, length-map (calls_of (Some kind)) call_word) in
-    omega (arith, row_cost (CallLine (tried (call_at (Some kind) index))) (2 ^ 64 - 1), tried_words (call_at (Some kind) index), ap length (call_word_at (Some kind) index below))
-word_costs stage (Row row most numbers) index is within = absurd (omega (arith, within))
-word_costs stage (Whole line) index is within = absurd (omega (arith, within))
-
-row_leads_cost : (row : Line) (most : ℕ) (numbers : Numbers) → cost (row_leads row most numbers) ≡ length (spaced (words_with row numbers))
-row_leads_cost row most numbers = by (numbers.count == (numbers_of row).count) refl
-  where
-    by : (b : Bool) → (numbers.count == (numbers_of row).count) ≡ b → cost (if b then Whole (made row numbers) else Row row most numbers) ≡ length (spaced (words_with row numbers))
-    by true is =
-        ap (λ (words : List (List ℕ)). length (spaced (words ++ map decimal (listed (numbers_of (made row numbers)))))) (words_made row numbers)
-        ∙ ap (λ (l : List ℕ). length (spaced (words_of row ++ map decimal l))) (sym (listed_made row numbers (eqb-true numbers.count (numbers_of row).count is)))
-    by false is = refl
+    let below : index < calls_at true kind = omega (arith, within, length_call_words kind 0 (calls_at true kind)) in
+    omega (arith, (call_costs kind index).1, ap length (call_word_at kind (calls_at true kind) index below))
+word_costs stage spot index is within = absurd (omega (arith, within))
 
 number_costs : (stage : Stage) (spot : Spot) (bounds : Bounds) (number : ℕ) (digits : List ℕ) → IsAt stage spot → bounds_at spot ≡ Some bounds → number ≤ bounds.most → 0 < length digits → number_behind 0 digits ≡ Some number
     → cost (after_number spot number) ≤ cost spot + 1 + length digits
-number_costs stage (Row row most numbers) bounds number digits is own fits longer written =
-    let few : numbers.count < 3 = omega (arith, is.2, few_numbers row) in
-    let sound = bounds_sound stage row most numbers is.0 is.1 is.2 in
-    let small : number < 2 ^ 64 = omega (arith, fits, sound.fits, ap (λ (b : Bounds). b.most) (same_Some (bounds_of row most numbers) bounds own)) in
-    let words : words_with row (with_number numbers number) ≡ words_with row numbers ++ decimal number ∷ [] =
-    ap (λ (l : List ℕ). words_of row ++ map decimal l) (listed_with numbers number few)
-    ∙ (ap (λ (l : List (List ℕ)). words_of row ++ l) (map-append decimal (listed numbers) (number ∷ [])) ∙ sym (append_assoc (words_of row) (map decimal (listed numbers)) (decimal number ∷ []))) in
-    omega (
-      arith,
-      row_leads_cost row most (with_number numbers number),
-      ap (λ (w : List (List ℕ)). length (spaced w)) words,
-      spaced_append (words_with row numbers) (decimal number ∷ []),
-      length-append (decimal number) [],
-      decimal_short digits number longer small written,
-    )
-number_costs stage Pgas bounds number digits is own fits longer written = absurd (none-some bounds own)
-number_costs stage Version bounds number digits is own fits longer written = absurd (none-some bounds own)
-number_costs stage Object bounds number digits is own fits longer written = absurd (none-some bounds own)
-number_costs stage AKind bounds number digits is own fits longer written = absurd (none-some bounds own)
-number_costs stage (Callers most) bounds number digits is own fits longer written = absurd (none-some bounds own)
-number_costs stage (Body speaker callers) bounds number digits is own fits longer written = absurd (none-some bounds own)
-number_costs stage (Try kind) bounds number digits is own fits longer written = absurd (none-some bounds own)
-number_costs stage (Whole line) bounds number digits is own fits longer written = absurd (none-some bounds own)
+number_costs stage spot bounds number digits is own fits longer written =
+    let at = in_row spot bounds own in
+    let here = subst (IsAt stage) at.spot_is is in
+    subst (λ (s : Spot). cost (after_number s number) ≤ cost s + 1 + length digits) (sym at.spot_is) (by at.row at.numbers here (ap (λ (b : Bounds). b.most) at.bounds_are))
+  where
+    by : (row : Row) (n : Numbers) → IsAt stage (ARow row n) → (bounds_of row n).most ≡ bounds.most → cost (row_spot row (with_number n number)) ≤ row_cost row n + 1 + length digits
+    by row n is most =
+        let few : count n < 3 = omega (arith, is.2, few_numbers row) in
+        let small : number < 2 ^ 64 = omega (arith, fits, most, (bounds_sound stage row n is.0 is.1).fits) in
+        let words : words_of (made row Zero) ++ map decimal (listed (with_number n number)) ≡ (words_of (made row Zero) ++ map decimal (listed n)) ++ decimal number ∷ [] =
+        ap (λ (l : List ℕ). words_of (made row Zero) ++ map decimal l) (listed_with n number few)
+        ∙ (ap (λ (l : List (List ℕ)). words_of (made row Zero) ++ l) (map-append decimal (listed n) (number ∷ [])) ∙ sym (append_assoc (words_of (made row Zero)) (map decimal (listed n)) (decimal number ∷ []))) in
+        omega (
+          arith,
+          spot_cost row (with_number n number) (omega (arith, is.2, count_with n number few)),
+          ap (λ (w : List (List ℕ)). length (spaced w)) words,
+          spaced_append (words_of (made row Zero) ++ map decimal (listed n)) (decimal number ∷ []),
+          length-append (decimal number) [],
+          decimal_short digits number longer small written,
+        )
 
 -- ---- a whole line
 
 said_whole : (spot : Spot) (line : Line) → says_of spot ≡ Some line → spot ≡ Whole line
 said_whole (Whole own) line says = ap (λ l. Whole l) (same_Some own line says)
-said_whole Pgas line says = absurd (none-some line says)
+said_whole (Start stage) line says = absurd (none-some line says)
 said_whole Version line says = absurd (none-some line says)
-said_whole Object line says = absurd (none-some line says)
 said_whole AKind line says = absurd (none-some line says)
-said_whole (Callers most) line says = absurd (none-some line says)
-said_whole (Body speaker callers) line says = absurd (none-some line says)
 said_whole (Try kind) line says = absurd (none-some line says)
-said_whole (Row row most numbers) line says = absurd (none-some line says)
+said_whole (ARow row n) line says = absurd (none-some line says)
 
-pub start_at : (stage : Stage) → IsStage stage → IsAt stage (start_of stage)
-start_at AtPgas staged = refl
-start_at AtObject staged = refl
-start_at (AtCallers object) staged = (object, refl, refl)
-start_at (InRound object callers caller) staged = (object, caller, refl, staged.1, refl)
-
-start_cost : (stage : Stage) → cost (start_of stage) ≡ 0
-start_cost AtPgas = refl
-start_cost AtObject = refl
-start_cost (AtCallers object) = refl
-start_cost (InRound object callers caller) = refl
-
--- every line has a word
 line_size : (line : Line) → length (written_line line) ≡ length (spaced (line_words line))
-line_size line = by (words_of line) (some line)
+line_size line = by (words_of line) (some_words line)
   where
-    some : (line : Line) → 0 < length (words_of line)
-    some PgasLine = omega arith
-    some (ObjectLine object) = omega arith
-    some (CallersLine callers) = omega arith
-    some (CallerLine caller) = omega arith
-    some RoundLine = omega arith
-    some EndLine = omega arith
-    some (CallLine (OfList call)) = omega arith
-    some (CallLine (OfBag call true)) = omega arith
-    some (CallLine (OfBag call false)) = omega arith
-    some (CallLine (OfDeque call true)) = omega arith
-    some (CallLine (OfDeque call false)) = omega arith
-
     by : (words : List (List ℕ)) → 0 < length words → length (words_line (words ++ map decimal (listed (numbers_of line))) ++ 10 ∷ []) ≡ length (spaced (words ++ map decimal (listed (numbers_of line))))
     by [] none = absurd (omega (arith, none))
     by (word ∷ words) none = omega (arith, length_push (word ++ spaced (words ++ map decimal (listed (numbers_of line)))) 10)
@@ -224,14 +157,14 @@ pub record Comes (stage : Stage) (line : Line) (bytes : List ℕ) : Type 0 where
   pub may : MayCome stage line
   pub long : length (written_line line) ≤ length bytes + 1
 
-pub line_comes : (stage : Stage) (line : Line) (bytes : List ℕ) → IsStage stage → line_says script_grammar (start_of stage) bytes ≡ Ok (Some line) → Comes stage line bytes
+pub line_comes : (stage : Stage) (line : Line) (bytes : List ℕ) → IsStage stage → line_says script_grammar (Start stage) bytes ≡ Ok (Some line) → Comes stage line bytes
 line_comes stage line bytes staged says =
     let behind =
     says_behind script_grammar (λ spot size. IsAt stage spot × (cost spot ≤ size)) (λ spot is. is)
     (λ spot size index is within. (word_keeps stage spot index is.0 within, omega (arith, is.1, word_costs stage spot index is.0 within)))
     (λ spot size bounds number digits is own least most longer written.
-    (number_keeps_at stage spot bounds number is.0 own least most, omega (arith, is.1, number_costs stage spot bounds number digits is.0 own most longer written))) (start_of stage) bytes line
-    (start_at stage staged, omega (arith, start_cost stage)) says in
+    (number_keeps_at stage spot bounds number is.0 own least most, omega (arith, is.1, number_costs stage spot bounds number digits is.0 own most longer written))) (Start stage) bytes line
+    (refl, omega arith) says in
     let whole = said_whole behind.form line behind.says in
     record {
       may = subst (IsAt stage) whole behind.is.0 staged;

@@ -1,28 +1,48 @@
--- The numbers of a whole row fit the fields of its line.
-use Rattle.std.proofs.Common.{◌≡◌, ℕ, ◌+◌, ◌-◌, ◌<◌, ◌≤◌, ◌^◌, arith}
-use Rattle.script_text.specs.declared.forms.Spot.TheVariants.{Row}
-use Rattle.script_text.specs.declared.lines.Line.{Line}
-use Rattle.script_text.specs.declared.lines.Line.TheVariants.{Pgas, Object, Callers, Caller, Round, Call as ACall, End}
+-- The numbers of a row fit the fields of its line.
+use Rattle.std.proofs.Common.{◌≡◌, ℕ, ◌<◌, ◌≤◌, ◌^◌, refl, arith}
+use Rattle.script_text.specs.declared.forms.Spot.TheVariants.{Row as ARow}
+use Rattle.script_text.specs.declared.lines.Kind.{Kind}
+use Rattle.script_text.specs.declared.lines.Kind.TheVariants.{List as KList, Bag as KBag, Deque as KDeque}
 use Rattle.script_text.specs.declared.lines.Stage.{Stage}
 use Rattle.script_text.specs.declared.rows.Numbers.{Numbers}
-use Rattle.script_text.specs.declared.scripts.ObjectLine.TheVariants.{List as AList, Bag as ABag, Deque as ADeque}
-use Rattle.script_text.specs.Forms.{bounds_of, IsFront, RowAt, IsAt}
-use Rattle.script_text.specs.Fronts.{number_keeps, some_callers}
-use Rattle.script_text.specs.Rows.{with_number, numbers_of, IsMakeable}
+use Rattle.script_text.specs.declared.rows.Numbers.TheVariants.{Zero, One, Two, Three}
+use Rattle.script_text.specs.declared.rows.Row.{Row}
+use Rattle.script_text.specs.declared.rows.Row.TheVariants.{Object, Callers, Caller, Call}
+use Rattle.script_text.specs.Forms.{object_bounds, bounds_of, In, IsFront, RowAt, IsAt}
+use Rattle.script_text.specs.Fronts.{few_numbers, number_keeps, some_callers}
+use Rattle.script_text.specs.Rows.{nth, with_number, IsMakeableObject, IsMakeable}
 
-fits : (stage : Stage) (row : Line) (most : ℕ) (n : Numbers) → RowAt stage row most → IsFront row most n → n.count ≡ (numbers_of row).count → IsMakeable row n
-fits stage (Object (AList locales objects width)) most n at front whole =
-    (omega (arith, front.0 (omega (arith, whole))), omega (arith, front.1 (omega (arith, whole))), omega (arith, front.2 (omega (arith, whole))))
-fits stage (Object (ABag locales segments room)) most n at front whole =
-    (omega (arith, front.0 (omega (arith, whole))), omega (arith, front.1 (omega (arith, whole))), omega (arith, front.2 (omega (arith, whole))))
-fits stage (Object (ADeque locales capacity)) most n at front whole = (omega (arith, front.0 (omega (arith, whole))), omega (arith, front.1 (omega (arith, whole))))
-fits stage (Callers callers) most n at front whole = omega (arith, front (omega (arith, whole)), at.2, (some_callers at.0).1)
-fits stage (Caller caller) most n at front whole = omega (arith, front.0 (omega (arith, whole)), at.4, at.5)
-fits stage (ACall call) most n at front whole = tt
-fits stage Pgas most n at front whole = tt
-fits stage Round most n at front whole = tt
-fits stage End most n at front whole = tt
+object_most : (n : Numbers) (kind : Kind) → (object_bounds n kind).most ≤ 2 ^ 24
+object_most Zero kind = omega arith
+object_most (One locales) KList = omega arith
+object_most (One locales) KBag = omega arith
+object_most (One locales) KDeque = omega arith
+object_most (Two locales objects) KList = omega arith
+object_most (Two locales segments) KBag = omega arith
+object_most (Two locales capacity) KDeque = omega arith
+object_most (Three locales second third) KList = omega arith
+object_most (Three locales second third) KBag = omega arith
+object_most (Three locales second third) KDeque = omega arith
 
-pub number_fits : (stage : Stage) (row : Line) (most : ℕ) (numbers : Numbers) (number : ℕ) → IsAt stage (Row row most numbers) → (bounds_of row most numbers).least ≤ number → number ≤ (bounds_of row most numbers).most
-    → (with_number numbers number).count ≡ (numbers_of row).count → IsMakeable row (with_number numbers number)
-number_fits stage row most numbers number is least most_is whole = fits stage row most (with_number numbers number) is.0 (number_keeps row most numbers number is.1 is.2 least most_is) whole
+object_fits : (kind : Kind) (n : Numbers) → IsFront (Object kind) n → IsMakeableObject n
+object_fits kind Zero front = (omega arith, omega arith, omega arith)
+object_fits kind (One first) front = (omega (arith, front), omega arith, omega arith)
+object_fits kind (Two first second) front = (omega (arith, front.0), omega (arith, front.1, object_most (One first) kind), omega arith)
+object_fits kind (Three first second third) front =
+    (omega (arith, front.0), omega (arith, front.1, object_most (One first) kind), omega (arith, front.2, object_most (Two first second) kind))
+
+-- the first number alone
+first_fits : (row : Row) (n : Numbers) (most : ℕ) → (bounds_of row Zero).most ≡ most → most < 2 ^ 32 → IsFront row n → nth n 0 < 2 ^ 32
+first_fits row Zero most is fits front = omega arith
+first_fits row (One first) most is fits front = omega (arith, is, fits, front)
+first_fits row (Two first second) most is fits front = omega (arith, is, fits, front.0)
+first_fits row (Three first second third) most is fits front = omega (arith, is, fits, front.0)
+
+fits : (stage : Stage) (row : Row) (n : Numbers) → RowAt stage row → IsFront row n → IsMakeable row n
+fits stage (Object kind) n at front = object_fits kind n front
+fits stage (Callers object) n at front = first_fits (Callers object) n _ refl (some_callers object).1 front
+fits stage (Caller callers) n at front = first_fits (Caller callers) n _ refl (omega arith) front
+fits stage (Call kind word once) n at front = tt
+
+pub number_fits : (stage : Stage) (row : Row) (n : Numbers) (number : ℕ) → IsAt stage (ARow row n) → In (bounds_of row n) number → IsMakeable row (with_number n number)
+number_fits stage row n number is within = fits stage row (with_number n number) is.0 (number_keeps row n number is.1 (omega (arith, is.2, few_numbers row)) within)

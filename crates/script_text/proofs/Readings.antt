@@ -1,10 +1,10 @@
 -- A reading of a script is one of its text.
-use Rattle.std.proofs.Common.{◌≡◌, ℕ, ◌++◌, List, [], ◌∷◌, Option, Some, Result, Ok, Err, MatchResult, refl, ap, sym, ◌∙◌, subst}
+use Rattle.std.proofs.Common.{◌≡◌, ℕ, ◌++◌, List, [], ◌∷◌, Option, Result, Ok, Err, ap, sym, ◌∙◌, subst}
 use Rattle.std.specs.Io.KnownBytes.{IsAtEnd}
 use Rattle.shared_io.specs.Counts.{Rose}
 use Rattle.line_text.specs.declared.faults.TextFault.{TextFault}
 use Rattle.line_text.specs.declared.faults.TextFault.TheVariants.{BadLine, TooLarge, ReadFault, OutOfMemory}
-use Rattle.line_text.specs.Readings.{Reading as TextReading, HasCause as TextCause, IsExcuse}
+use Rattle.line_text.specs.Readings.{Reading as TextReading, HasCause as TextCause}
 use Rattle.line_text.specs.Texts.{WasAskedFor as TextWasAskedFor}
 use Rattle.line_text.proofs.Inputs.{means_one as text_means_one}
 use Rattle.line_text.proofs.Sources.{text_input, refusal_input}

@@ -1,5 +1,5 @@
 -- The script of a text is valid.
-use Rattle.std.proofs.Common.{◌≡◌, ◌≢◌, ℕ, ◌+◌, ◌<◌, ◌≤◌, ◌^◌, zero, suc, Bool, true, false, if◌then◌else◌, List, [], ◌∷◌, ◌++◌, length, replicate, sum_by, slice_index_or, slice_set, All, Option, Some, None, Result, Ok, Err, IfOk, refl, ap, sym, ◌∙◌, subst, arith, inl, inr, ⊎_elim, append-nil, length-append, length-set, add-zero, get_or-set_same}
+use Rattle.std.proofs.Common.{◌≡◌, ◌≢◌, ℕ, ◌+◌, ◌<◌, ◌≤◌, ◌^◌, zero, suc, Bool, true, false, if◌then◌else◌, List, [], ◌∷◌, ◌++◌, length, replicate, sum_by, slice_index_or, slice_set, All, Option, Some, None, Ok, refl, ap, sym, ◌∙◌, subst, arith, ⊎_elim, append-nil, length-append, length-set, add-zero, get_or-set_same}
 use Rattle.std.specs.List.{flat_map}
 use Rattle.std.proofs.lemmas.Bool.{false≢true}
 use Rattle.std.proofs.lemmas.List.{length_push, length-replicate}
@@ -9,6 +9,7 @@ use Rattle.std.proofs.lemmas.List.Sums.{sum_by_push, sum_by-set, sum_by-cons}
 use Rattle.line_text.specs.Lines.{line_says}
 use Rattle.line_text.specs.Texts.{Standing, HasText, standing, count_of}
 use Rattle.line_text.proofs.Kept.{text_keeps}
+use Rattle.script_text.specs.declared.forms.Spot.TheVariants.{Start}
 use Rattle.script_text.specs.declared.scripts.ObjectLine.{ObjectLine}
 use Rattle.script_text.specs.declared.scripts.Call.{Call}
 use Rattle.script_text.specs.declared.lines.Line.{Line}
@@ -16,7 +17,7 @@ use Rattle.script_text.specs.declared.lines.Line.TheVariants.{Pgas, Object, Call
 use Rattle.script_text.specs.declared.lines.Stage.{Stage}
 use Rattle.script_text.specs.declared.lines.Stage.TheVariants.{AtPgas, AtObject, AtCallers, InRound}
 use Rattle.script_text.specs.Drafts.{Progress}
-use Rattle.script_text.specs.Forms.{start_of, script_grammar, IsStage}
+use Rattle.script_text.specs.Forms.{script_grammar, IsStage}
 use Rattle.script_text.specs.Fronts.{some_callers}
 use Rattle.script_text.specs.Lines.{IsObject, IsCallers, IsCallOf, MayCome, IsInRound, stage_after}
 use Rattle.script_text.specs.Rows.{written_line}
@@ -234,11 +235,11 @@ HoldsAt at counted bytes = Holds at.stage at.before at.calls bytes counted × (c
 no_end : (line : Line) → is_end (Some line) ≡ false → line ≢ End
 no_end line other is = false≢true (sym other ∙ ap (λ l. is_end (Some l)) is)
 
-says_holds : (at : Progress) (counted bytes : ℕ) (line : List ℕ) (said : Option Line) → HoldsAt at counted bytes → line_says script_grammar (start_of at.stage) line ≡ Ok said → is_end said ≡ false → (is_counted said ≡ true → counted < 2 ^ 20)
+says_holds : (at : Progress) (counted bytes : ℕ) (line : List ℕ) (said : Option Line) → HoldsAt at counted bytes → line_says script_grammar (Start at.stage) line ≡ Ok said → is_end said ≡ false → (is_counted said ≡ true → counted < 2 ^ 20)
     → HoldsAt (after at said) (counted + count_of script_text said) (bytes + length line + 1)
 says_holds at counted bytes line said holds says other few = (by said says other, within (is_counted said) refl)
   where
-    by : (said : Option Line) → line_says script_grammar (start_of at.stage) line ≡ Ok said → is_end said ≡ false → Holds (after at said).stage (after at said).before (after at said).calls (bytes + length line + 1) (counted + count_of script_text said)
+    by : (said : Option Line) → line_says script_grammar (Start at.stage) line ≡ Ok said → is_end said ≡ false → Holds (after at said).stage (after at said).before (after at said).calls (bytes + length line + 1) (counted + count_of script_text said)
     by None says other =
         subst (λ n. Holds at.stage at.before at.calls (bytes + length line + 1) n) (sym (add-zero counted)) (more_bytes at.stage at.before at.calls bytes (bytes + length line + 1) counted (omega arith) holds.0)
     by (Some line_is) says other =
@@ -300,7 +301,7 @@ last_line read ended at text =
       bytes = kept.size;
       holds = kept.holds.0;
       comes = line_comes a.progress.stage End a.part (staged a.progress.stage a.progress.before a.progress.calls kept.size a.counted kept.holds.0)
-          (ap (line_says script_grammar (start_of a.progress.stage)) (sym (append-nil a.part)) ∙ (text.last ∙ ap (λ s. Ok s) is));
+          (ap (line_says script_grammar (Start a.progress.stage)) (sym (append-nil a.part)) ∙ (text.last ∙ ap (λ s. Ok s) is));
       made = text.makes ∙ ap (after a.progress) is;
       few = kept.holds.1;
       short = omega (arith, kept.sizes, kept.short);

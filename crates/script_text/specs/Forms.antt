@@ -1,97 +1,92 @@
 -- What a line of a script may be, word by word.
-use Rattle.std.specs.Prelude.{◌≡◌, ℕ, zero, suc, ◌+◌, ◌-◌, ◌*◌, ◌/◌, ◌<◌, ◌≤◌, ◌^◌, ◌==◌, ◌&&◌, min, nat_lt, if◌then◌else◌, Bool, true, false, List, [], ◌∷◌, ◌++◌, length, map, slice_index_or, Option, Some, None, codes}
+use Rattle.std.specs.Prelude.{◌≡◌, ℕ, zero, suc, ◌+◌, ◌-◌, ◌*◌, ◌/◌, ◌<◌, ◌≤◌, ◌^◌, ◌==◌, min, nat_lt, if◌then◌else◌, Bool, true, false, List, [], ◌∷◌, ◌++◌, Option, Some, None, is_some, codes}
 use Rattle.line_text.specs.declared.forms.Bounds.{Bounds}
 use Rattle.line_text.specs.declared.forms.Reject.TheVariants.{Bad}
 use Rattle.line_text.specs.Lines.{Grammar}
 use Rattle.script_text.specs.declared.forms.Spot.{Spot}
-use Rattle.script_text.specs.declared.forms.Spot.TheVariants.{Pgas, Version, Object, Kind as AKind, Callers, Body, Try, Row, Whole}
+use Rattle.script_text.specs.declared.forms.Spot.TheVariants.{Start, Version, Kind as AKind, Try, Row as ARow, Whole}
 use Rattle.script_text.specs.declared.lines.Kind.{Kind}
 use Rattle.script_text.specs.declared.lines.Kind.TheVariants.{List as KList, Bag as KBag, Deque as KDeque}
 use Rattle.script_text.specs.declared.lines.Line.{Line}
-use Rattle.script_text.specs.declared.lines.Line.TheVariants.{Pgas as PgasLine, Object as ObjectLine, Callers as CallersLine, Caller as CallerLine, Round as RoundLine, Call as CallLine, End as EndLine}
+use Rattle.script_text.specs.declared.lines.Line.TheVariants.{Pgas, Round, End}
 use Rattle.script_text.specs.declared.lines.Stage.{Stage}
 use Rattle.script_text.specs.declared.lines.Stage.TheVariants.{AtPgas, AtObject, AtCallers, InRound}
 use Rattle.script_text.specs.declared.rows.Numbers.{Numbers}
-use Rattle.script_text.specs.declared.scripts.ObjectLine.{ObjectLine as AnObject}
-use Rattle.script_text.specs.declared.scripts.ObjectLine.TheVariants.{List as AList, Bag as ABag, Deque as ADeque}
-use Rattle.script_text.specs.declared.scripts.Call.{Call}
-use Rattle.script_text.specs.declared.scripts.Call.TheVariants.{List as OfList}
-use Rattle.seq_objects.specs.declared.lists.ListCall.TheVariants.{Len}
-use Rattle.script_text.specs.Lines.{kind_of, most_callers, IsOfObject, MayCome}
-use Rattle.script_text.specs.Rows.{none, with_number, calls_of, tried, is_once, call_word, numbers_of, made}
-
--- ---- where a line starts
-
-abbrev pub speaker_of : AnObject → Option ℕ → Option Kind
-speaker_of object None = None
-speaker_of object (Some caller) = Some (kind_of object)
-
-abbrev pub start_of : Stage → Spot
-start_of AtPgas = Pgas
-start_of AtObject = Object
-start_of (AtCallers object) = Callers (most_callers object)
-start_of (InRound object callers caller) = Body (speaker_of object caller) callers
+use Rattle.script_text.specs.declared.rows.Numbers.TheVariants.{Zero, One, Two, Three}
+use Rattle.script_text.specs.declared.rows.Row.{Row}
+use Rattle.script_text.specs.declared.rows.Row.TheVariants.{Object, Callers, Caller, Call}
+use Rattle.script_text.specs.declared.scripts.ObjectLine.{ObjectLine}
+use Rattle.script_text.specs.Lines.{most_callers, MayCome}
+use Rattle.script_text.specs.Rows.{count, with_number, kind_of, numbers_of, made, row_word}
 
 -- ---- words
 
--- where the words of a row lead
-abbrev pub row_spot : Line → ℕ → Spot
-row_spot row most = if (numbers_of row).count == 0 then Whole row else Row row most none
+-- the words of so many calls, from that of this number on
+abbrev pub call_words : Kind → ℕ → ℕ → List (List ℕ)
+call_words kind word zero = []
+call_words kind word (suc more) = row_word (Call kind word false) ∷ call_words kind (word + 1) more
 
-abbrev pub call_spot : Call → Spot
-call_spot call = row_spot (CallLine call) (2 ^ 64 - 1)
+-- how many calls may come, if a `caller` line stands before
+abbrev pub calls_at : Bool → Kind → ℕ
+calls_at false kind = 0
+calls_at true KList = 6
+calls_at true KBag = 2
+calls_at true KDeque = 4
 
 -- a call may be tried once by a caller that is alone
-abbrev pub tries : Option Kind → ℕ → Bool
-tries (Some KBag) callers = callers == 1
-tries (Some KDeque) callers = callers == 1
-tries speaker callers = false
+abbrev pub tries : Bool → Kind → ℕ → Bool
+tries false kind callers = false
+tries true KList callers = false
+tries true kind callers = callers == 1
 
 -- the words behind those of the calls
 abbrev pub round_words : Bool → List (List ℕ)
 round_words true = codes "caller" ∷ codes "round" ∷ codes "end" ∷ codes "try" ∷ []
 round_words false = codes "caller" ∷ codes "round" ∷ codes "end" ∷ []
 
-abbrev pub try_leads : Option Kind → Spot
-try_leads None = Whole EndLine
-try_leads (Some kind) = Try kind
-
-abbrev pub round_leads : Option Kind → ℕ → ℕ → Spot
-round_leads speaker callers zero = row_spot (CallerLine 0) (callers - 1)
-round_leads speaker callers (suc zero) = Whole RoundLine
-round_leads speaker callers (suc (suc zero)) = Whole EndLine
-round_leads speaker callers index = try_leads speaker
-
-abbrev pub object_row : ℕ → AnObject
-object_row zero = AList 0 0 0
-object_row (suc zero) = ABag 0 0 0
-object_row index = ADeque 0 0
-
-abbrev pub call_at : Option Kind → ℕ → Call
-call_at speaker index = slice_index_or (calls_of speaker) index (OfList Len)
+abbrev pub round_start : Bool → Kind → ℕ → List (List ℕ)
+round_start spoken kind callers = call_words kind 0 (calls_at spoken kind) ++ round_words (tries spoken kind callers)
 
 abbrev pub words_at : Spot → List (List ℕ)
-words_at Pgas = codes "pgas" ∷ []
+words_at (Start AtPgas) = codes "pgas" ∷ []
+words_at (Start AtObject) = codes "object" ∷ []
+words_at (Start (AtCallers object)) = codes "callers" ∷ []
+words_at (Start (InRound object callers caller)) = round_start (is_some caller) (kind_of object) callers
 words_at Version = codes "1" ∷ []
-words_at Object = codes "object" ∷ []
-words_at AKind = codes "list" ∷ codes "bag" ∷ codes "deque" ∷ []
-words_at (Callers most) = codes "callers" ∷ []
-words_at (Body speaker callers) = map call_word (calls_of speaker) ++ round_words (tries speaker callers)
-words_at (Try kind) = map call_word (calls_of (Some kind))
+words_at AKind = row_word (Object KList) ∷ row_word (Object KBag) ∷ row_word (Object KDeque) ∷ []
+words_at (Try kind) = call_words kind 0 (calls_at true kind)
 words_at spot = []
 
-abbrev pub body_leads : Option Kind → ℕ → ℕ → Spot
-body_leads speaker callers index =
-    if nat_lt index (length (calls_of speaker)) then call_spot (call_at speaker index) else round_leads speaker callers (index - length (calls_of speaker))
+-- behind these numbers of a row
+abbrev pub row_spot : Row → Numbers → Spot
+row_spot row n = if count (numbers_of (made row n)) == count n then Whole (made row n) else ARow row n
+
+abbrev pub call_spot : Kind → ℕ → Bool → Spot
+call_spot kind word once = row_spot (Call kind word once) Zero
+
+abbrev pub behind_calls : Kind → ℕ → ℕ → Spot
+behind_calls kind callers zero = row_spot (Caller callers) Zero
+behind_calls kind callers (suc zero) = Whole Round
+behind_calls kind callers (suc (suc zero)) = Whole End
+behind_calls kind callers index = Try kind
+
+abbrev pub round_leads : Bool → Kind → ℕ → ℕ → Spot
+round_leads spoken kind callers index =
+    if nat_lt index (calls_at spoken kind) then call_spot kind index false else behind_calls kind callers (index - calls_at spoken kind)
+
+abbrev pub kind_at : ℕ → Kind
+kind_at zero = KList
+kind_at (suc zero) = KBag
+kind_at index = KDeque
 
 abbrev pub after_word : Spot → ℕ → Spot
-after_word Pgas index = Version
-after_word Version index = Whole PgasLine
-after_word Object index = AKind
-after_word AKind index = row_spot (ObjectLine (object_row index)) 0
-after_word (Callers most) index = row_spot (CallersLine 0) most
-after_word (Body speaker callers) index = body_leads speaker callers index
-after_word (Try kind) index = call_spot (tried (call_at (Some kind) index))
+after_word (Start AtPgas) index = Version
+after_word (Start AtObject) index = AKind
+after_word (Start (AtCallers object)) index = row_spot (Callers object) Zero
+after_word (Start (InRound object callers caller)) index = round_leads (is_some caller) (kind_of object) callers index
+after_word Version index = Whole Pgas
+after_word AKind index = row_spot (Object (kind_at index)) Zero
+after_word (Try kind) index = call_spot kind index true
 after_word spot index = spot
 
 -- ---- numbers
@@ -100,30 +95,25 @@ abbrev pub between : ℕ → ℕ → Bounds
 between least most = record { least = least; most = most; above = Bad }
 
 -- the objects of a list leave room for rows of two words, and the width for all of them
-abbrev pub list_bounds : Numbers → Bounds
-list_bounds numbers =
-    if numbers.count == 1 then between 2 (min (2 ^ 25 / (4 * numbers.first)) (2 ^ 20)) else between 2 (min (2 ^ 25 / (numbers.first * numbers.second) - 2) 4096)
+abbrev pub object_bounds : Numbers → Kind → Bounds
+object_bounds Zero kind = between 1 16
+object_bounds (One locales) KList = between 2 (min (2 ^ 25 / (4 * locales)) (2 ^ 20))
+object_bounds (Two locales objects) KList = between 2 (min (2 ^ 25 / (locales * objects) - 2) 4096)
+object_bounds (One locales) KBag = between 1 64
+object_bounds n kind = between 1 (2 ^ 24)
 
-abbrev pub object_bounds : AnObject → Numbers → Bounds
-object_bounds (AList locales objects width) numbers = if numbers.count == 0 then between 1 16 else list_bounds numbers
-object_bounds (ABag locales segments room) numbers = if numbers.count == 0 then between 1 16 else (if numbers.count == 1 then between 1 64 else between 1 (2 ^ 24))
-object_bounds (ADeque locales capacity) numbers = if numbers.count == 0 then between 1 16 else between 1 (2 ^ 24)
-
-abbrev pub bounds_of : Line → ℕ → Numbers → Bounds
-bounds_of (ObjectLine object) most numbers = object_bounds object numbers
-bounds_of (CallersLine callers) most numbers = between 1 most
-bounds_of row most numbers = between 0 most
+abbrev pub bounds_of : Row → Numbers → Bounds
+bounds_of (Object kind) n = object_bounds n kind
+bounds_of (Callers object) n = between 1 (most_callers object)
+bounds_of (Caller callers) n = between 0 (min (callers - 1) (2 ^ 32 - 1))
+bounds_of (Call kind word once) n = between 0 (2 ^ 64 - 1)
 
 abbrev pub bounds_at : Spot → Option Bounds
-bounds_at (Row row most numbers) = Some (bounds_of row most numbers)
+bounds_at (ARow row n) = Some (bounds_of row n)
 bounds_at spot = None
 
--- the row is whole with its last number
-abbrev pub row_leads : Line → ℕ → Numbers → Spot
-row_leads row most numbers = if numbers.count == (numbers_of row).count then Whole (made row numbers) else Row row most numbers
-
 abbrev pub after_number : Spot → ℕ → Spot
-after_number (Row row most numbers) number = row_leads row most (with_number numbers number)
+after_number (ARow row n) number = row_spot row (with_number n number)
 after_number spot number = spot
 
 abbrev pub says_of : Spot → Option Line
@@ -135,31 +125,25 @@ script_grammar = record { words = words_at; after_word = after_word; bounds = bo
 
 -- ---- which spots there are
 
--- the numbers of an object that were read keep their bounds
-abbrev pub IsListFront : Numbers → Type 0
-IsListFront numbers =
-    (0 < numbers.count → (1 ≤ numbers.first) × (numbers.first ≤ 16)) × (1 < numbers.count → (2 ≤ numbers.second) × (numbers.second ≤ 2 ^ 20) × (numbers.first * numbers.second * 4 ≤ 2 ^ 25))
-    × (2 < numbers.count → (2 ≤ numbers.third) × (numbers.third ≤ 4096) × (numbers.first * numbers.second * (numbers.third + 2) ≤ 2 ^ 25))
+abbrev pub In : Bounds → ℕ → Type 0
+In bounds number = (bounds.least ≤ number) × (number ≤ bounds.most)
 
-abbrev pub IsObjectFront : AnObject → Numbers → Type 0
-IsObjectFront (AList locales objects width) numbers = IsListFront numbers
-IsObjectFront (ABag locales segments room) numbers =
-    (0 < numbers.count → (1 ≤ numbers.first) × (numbers.first ≤ 16)) × (1 < numbers.count → (1 ≤ numbers.second) × (numbers.second ≤ 64)) × (2 < numbers.count → (1 ≤ numbers.third) × (numbers.third ≤ 2 ^ 24))
-IsObjectFront (ADeque locales capacity) numbers = (0 < numbers.count → (1 ≤ numbers.first) × (numbers.first ≤ 16)) × (1 < numbers.count → (1 ≤ numbers.second) × (numbers.second ≤ 2 ^ 24))
+-- each number lies in its bounds
+abbrev pub IsFront : Row → Numbers → Type 0
+IsFront row Zero = Unit {0}
+IsFront row (One first) = In (bounds_of row Zero) first
+IsFront row (Two first second) = In (bounds_of row Zero) first × In (bounds_of row (One first)) second
+IsFront row (Three first second third) = In (bounds_of row Zero) first × In (bounds_of row (One first)) second × In (bounds_of row (Two first second)) third
 
-abbrev pub IsFront : Line → ℕ → Numbers → Type 0
-IsFront (ObjectLine object) most numbers = IsObjectFront object numbers
-IsFront (CallersLine callers) most numbers = 0 < numbers.count → (1 ≤ numbers.first) × (numbers.first ≤ most)
-IsFront row most numbers = (0 < numbers.count → numbers.first ≤ most) × (1 < numbers.count → numbers.second ≤ most) × (2 < numbers.count → numbers.third ≤ most)
+abbrev pub count_of : Row → ℕ
+count_of row = count (numbers_of (made row Zero))
 
--- a line of the row may come at the stage, if its numbers are in their bounds, of which this is the greatest
-abbrev pub RowAt : Stage → Line → ℕ → Type 0
-RowAt stage (ObjectLine object) most = stage ≡ AtObject
-RowAt stage (CallersLine callers) most = (object : AnObject) × (stage ≡ AtCallers object) × (most ≡ most_callers object)
-RowAt stage (CallerLine next) most = (object : AnObject) × (callers : ℕ) × (caller : Option ℕ) × (stage ≡ InRound object callers caller) × (callers < 2 ^ 32) × (most ≡ callers - 1)
-RowAt stage (CallLine call) most =
-    (object : AnObject) × (callers : ℕ) × (caller : ℕ) × (stage ≡ InRound object callers (Some caller)) × (most ≡ 2 ^ 64 - 1) × IsOfObject object call × (is_once call ≡ true → callers ≡ 1)
-RowAt stage row most = ⊥
+-- a line of the row may come at the stage, if its numbers are in their bounds
+abbrev pub RowAt : Stage → Row → Type 0
+RowAt stage (Object kind) = stage ≡ AtObject
+RowAt stage (Callers object) = stage ≡ AtCallers object
+RowAt stage (Caller callers) = (object : ObjectLine) × (caller : Option ℕ) × (stage ≡ InRound object callers caller)
+RowAt stage (Call kind word once) = (object : ObjectLine) × (callers : ℕ) × (caller : ℕ) × (stage ≡ InRound object callers (Some caller)) × (kind ≡ kind_of object) × (once ≡ true → callers ≡ 1)
 
 -- a round has a caller
 abbrev pub IsStage : Stage → Type 0
@@ -168,14 +152,11 @@ IsStage stage = Unit {0}
 
 -- A line of the stage stands here.
 abbrev pub IsAt : Stage → Spot → Type 0
-IsAt stage Pgas = stage ≡ AtPgas
+IsAt stage (Start own) = own ≡ stage
 IsAt stage Version = stage ≡ AtPgas
-IsAt stage Object = stage ≡ AtObject
 IsAt stage AKind = stage ≡ AtObject
-IsAt stage (Callers most) = (object : AnObject) × (stage ≡ AtCallers object) × (most ≡ most_callers object)
-IsAt stage (Body speaker callers) = (object : AnObject) × (caller : Option ℕ) × (stage ≡ InRound object callers caller) × (callers < 2 ^ 32) × (speaker ≡ speaker_of object caller)
-IsAt stage (Try kind) = (object : AnObject) × (caller : ℕ) × (stage ≡ InRound object 1 (Some caller)) × (kind ≡ kind_of object) × (tries (Some kind) 1 ≡ true)
-IsAt stage (Row row most numbers) = RowAt stage row most × IsFront row most numbers × (numbers.count < (numbers_of row).count)
+IsAt stage (Try kind) = (object : ObjectLine) × (caller : ℕ) × (stage ≡ InRound object 1 (Some caller)) × (kind ≡ kind_of object)
+IsAt stage (ARow row n) = RowAt stage row × IsFront row n × (count n < count_of row)
 IsAt stage (Whole line) = IsStage stage → MayCome stage line
 
 abbrev pub IsSpot : Spot → Type 0

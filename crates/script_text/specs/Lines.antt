@@ -1,12 +1,10 @@
 -- Where each line of a script may stand.
-use Rattle.std.specs.Prelude.{◌≡◌, ℕ, ◌<◌, ◌≤◌, ◌^◌, true, List, All, Option, Some, None}
+use Rattle.std.specs.Prelude.{◌≡◌, ℕ, ◌<◌, ◌≤◌, ◌^◌, true, All, Some, None}
 use Rattle.pgas_base.specs.Shapes.{IsShape}
 use Rattle.script_text.specs.declared.scripts.ObjectLine.{ObjectLine}
 use Rattle.script_text.specs.declared.scripts.ObjectLine.TheVariants.{List as AList, Bag as ABag, Deque as ADeque}
 use Rattle.script_text.specs.declared.scripts.Call.{Call}
 use Rattle.script_text.specs.declared.scripts.Call.TheVariants.{List as OfList, Bag as OfBag, Deque as OfDeque}
-use Rattle.script_text.specs.declared.lines.Kind.{Kind}
-use Rattle.script_text.specs.declared.lines.Kind.TheVariants.{List as KList, Bag as KBag, Deque as KDeque}
 use Rattle.script_text.specs.declared.lines.Line.{Line}
 use Rattle.script_text.specs.declared.lines.Line.TheVariants.{Pgas, Object, Callers, Caller, Round, Call as ACall, End}
 use Rattle.script_text.specs.declared.lines.Stage.{Stage}
@@ -19,11 +17,6 @@ abbrev pub IsObject : ObjectLine → Type 0
 IsObject (AList locales objects width) = IsShape (record { locales = locales; tokens = 64; objects = objects; width = width }) × (2 ≤ objects)
 IsObject (ABag locales segments room) = (1 ≤ locales) × (locales ≤ 16) × (1 ≤ segments) × (segments ≤ 64) × (1 ≤ room) × (room ≤ 2 ^ 24)
 IsObject (ADeque locales capacity) = (1 ≤ locales) × (locales ≤ 16) × (1 ≤ capacity) × (capacity ≤ 2 ^ 24)
-
-abbrev pub kind_of : ObjectLine → Kind
-kind_of (AList locales objects width) = KList
-kind_of (ABag locales segments room) = KBag
-kind_of (ADeque locales capacity) = KDeque
 
 -- the most callers of an object: a bag or a deque is shared
 abbrev pub most_callers : ObjectLine → ℕ

@@ -1,6 +1,5 @@
--- The words and the numbers of each line. A line whose numbers are 0 is the row of a table: it stands for all lines of
--- its form.
-use Rattle.std.specs.Prelude.{◌≡◌, ℕ, zero, suc, ◌<◌, ◌^◌, Bool, true, false, List, [], ◌∷◌, ◌++◌, map, take, Option, Some, None, codes, decimal}
+-- The words and the numbers of each line. A row is a line but for its numbers.
+use Rattle.std.specs.Prelude.{ℕ, zero, suc, ◌<◌, ◌^◌, Bool, true, false, List, [], ◌∷◌, ◌++◌, length, map, slice_index_or, codes, decimal}
 use Rattle.seq_objects.specs.declared.lists.ListCall.{ListCall}
 use Rattle.seq_objects.specs.declared.lists.ListCall.TheVariants.{Read, Write, Swap, Add, Grow, Len}
 use Rattle.seq_objects.specs.declared.bags.BagCall.{BagCall}
@@ -17,199 +16,160 @@ use Rattle.script_text.specs.declared.lines.Kind.TheVariants.{List as KList, Bag
 use Rattle.script_text.specs.declared.lines.Line.{Line}
 use Rattle.script_text.specs.declared.lines.Line.TheVariants.{Pgas, Object, Callers, Caller, Round, Call as ACall, End}
 use Rattle.script_text.specs.declared.rows.Numbers.{Numbers}
+use Rattle.script_text.specs.declared.rows.Numbers.TheVariants.{Zero, One, Two, Three}
+use Rattle.script_text.specs.declared.rows.Row.{Row}
+use Rattle.script_text.specs.declared.rows.Row.TheVariants.{Object as ObjectRow, Callers as CallersRow, Caller as CallerRow, Call as CallRow}
 
 -- ---- numbers
 
-abbrev pub none : Numbers
-none = record { count = 0; first = 0; second = 0; third = 0 }
-
-abbrev pub one : ℕ → Numbers
-one first = record { count = 1; first = first; second = 0; third = 0 }
-
-abbrev pub two : ℕ → ℕ → Numbers
-two first second = record { count = 2; first = first; second = second; third = 0 }
-
-abbrev pub three : ℕ → ℕ → ℕ → Numbers
-three first second third = record { count = 3; first = first; second = second; third = third }
-
 abbrev pub listed : Numbers → List ℕ
-listed numbers = take numbers.count (numbers.first ∷ numbers.second ∷ numbers.third ∷ [])
+listed Zero = []
+listed (One first) = first ∷ []
+listed (Two first second) = first ∷ second ∷ []
+listed (Three first second third) = first ∷ second ∷ third ∷ []
 
-abbrev with_at : ℕ → Numbers → ℕ → Numbers
-with_at zero numbers number = one number
-with_at (suc zero) numbers number = two numbers.first number
-with_at count numbers number = three numbers.first numbers.second number
+abbrev pub count : Numbers → ℕ
+count numbers = length (listed numbers)
+
+abbrev pub nth : Numbers → ℕ → ℕ
+nth numbers place = slice_index_or (listed numbers) place 0
 
 -- with one more at the end
 abbrev pub with_number : Numbers → ℕ → Numbers
-with_number numbers number = with_at numbers.count numbers number
+with_number Zero number = One number
+with_number (One first) number = Two first number
+with_number (Two first second) number = Three first second number
+with_number (Three first second third) number = Three first second number
 
--- ---- the rows of the calls that may come
+-- ---- calls, by the numbers of their words
 
-abbrev pub list_calls : List Call
-list_calls = OfList (Read 0) ∷ OfList (Write 0 0) ∷ OfList (Swap 0 0 0) ∷ OfList (Add 0 0) ∷ OfList (Grow 0) ∷ OfList Len ∷ []
+abbrev pub list_call : ℕ → Numbers → ListCall
+list_call zero n = Read (nth n 0)
+list_call (suc zero) n = Write (nth n 0) (nth n 1)
+list_call (suc (suc zero)) n = Swap (nth n 0) (nth n 1) (nth n 2)
+list_call (suc (suc (suc zero))) n = Add (nth n 0) (nth n 1)
+list_call (suc (suc (suc (suc zero)))) n = Grow (nth n 0)
+list_call word n = Len
 
-abbrev pub bag_calls : List Call
-bag_calls = OfBag (Put 0) false ∷ OfBag Remove false ∷ []
+abbrev pub bag_call : ℕ → Numbers → BagCall
+bag_call zero n = Put (nth n 0)
+bag_call word n = Remove
 
-abbrev pub deque_calls : List Call
-deque_calls = OfDeque (PushBack 0) false ∷ OfDeque (PushFront 0) false ∷ OfDeque PopBack false ∷ OfDeque PopFront false ∷ []
+abbrev pub deque_call : ℕ → Numbers → DequeCall
+deque_call zero n = PushBack (nth n 0)
+deque_call (suc zero) n = PushFront (nth n 0)
+deque_call (suc (suc zero)) n = PopBack
+deque_call word n = PopFront
 
-abbrev pub calls_of : Option Kind → List Call
-calls_of None = []
-calls_of (Some KList) = list_calls
-calls_of (Some KBag) = bag_calls
-calls_of (Some KDeque) = deque_calls
+abbrev pub call_of : Kind → ℕ → Bool → Numbers → Call
+call_of KList word once n = OfList (list_call word n)
+call_of KBag word once n = OfBag (bag_call word n) once
+call_of KDeque word once n = OfDeque (deque_call word n) once
 
-abbrev pub tried : Call → Call
-tried (OfList call) = OfList call
-tried (OfBag call once) = OfBag call true
-tried (OfDeque call once) = OfDeque call true
+-- ---- the words of calls, and their numbers
+
+abbrev pub list_parts : ListCall → List ℕ × Numbers
+list_parts (Read at) = (codes "read", One at)
+list_parts (Write at value) = (codes "write", Two at value)
+list_parts (Swap at old new) = (codes "swap", Three at old new)
+list_parts (Add at value) = (codes "add", Two at value)
+list_parts (Grow to) = (codes "grow", One to)
+list_parts Len = (codes "len", Zero)
+
+abbrev pub bag_parts : BagCall → List ℕ × Numbers
+bag_parts (Put item) = (codes "add", One item)
+bag_parts Remove = (codes "remove", Zero)
+
+abbrev pub deque_parts : DequeCall → List ℕ × Numbers
+deque_parts (PushBack item) = (codes "push_back", One item)
+deque_parts (PushFront item) = (codes "push_front", One item)
+deque_parts PopBack = (codes "pop_back", Zero)
+deque_parts PopFront = (codes "pop_front", Zero)
+
+abbrev pub call_parts : Call → List ℕ × Numbers
+call_parts (OfList call) = list_parts call
+call_parts (OfBag call once) = bag_parts call
+call_parts (OfDeque call once) = deque_parts call
+
+abbrev pub call_numbers : Call → Numbers
+call_numbers call = (call_parts call).1
 
 abbrev pub is_once : Call → Bool
 is_once (OfList call) = false
 is_once (OfBag call once) = once
 is_once (OfDeque call once) = once
 
--- ---- words
+-- ---- lines
 
-abbrev pub list_word : ListCall → List ℕ
-list_word (Read at) = codes "read"
-list_word (Write at value) = codes "write"
-list_word (Swap at old new) = codes "swap"
-list_word (Add at value) = codes "add"
-list_word (Grow to) = codes "grow"
-list_word Len = codes "len"
+abbrev pub kind_of : ObjectLine → Kind
+kind_of (AList locales objects width) = KList
+kind_of (ABag locales segments room) = KBag
+kind_of (ADeque locales capacity) = KDeque
 
-abbrev pub bag_word : BagCall → List ℕ
-bag_word (Put item) = codes "add"
-bag_word Remove = codes "remove"
+abbrev pub object_parts : ObjectLine → List ℕ × Numbers
+object_parts (AList locales objects width) = (codes "list", Three locales objects width)
+object_parts (ABag locales segments room) = (codes "bag", Three locales segments room)
+object_parts (ADeque locales capacity) = (codes "deque", Two locales capacity)
 
-abbrev pub deque_word : DequeCall → List ℕ
-deque_word (PushBack item) = codes "push_back"
-deque_word (PushFront item) = codes "push_front"
-deque_word PopBack = codes "pop_back"
-deque_word PopFront = codes "pop_front"
+-- the last word of a line, and its numbers
+abbrev pub line_parts : Line → List ℕ × Numbers
+line_parts Pgas = (codes "1", Zero)
+line_parts (Object object) = object_parts object
+line_parts (Callers callers) = (codes "callers", One callers)
+line_parts (Caller caller) = (codes "caller", One caller)
+line_parts Round = (codes "round", Zero)
+line_parts (ACall call) = call_parts call
+line_parts End = (codes "end", Zero)
 
-abbrev pub call_word : Call → List ℕ
-call_word (OfList call) = list_word call
-call_word (OfBag call once) = bag_word call
-call_word (OfDeque call once) = deque_word call
-
-abbrev pub object_word : ObjectLine → List ℕ
-object_word (AList locales objects width) = codes "list"
-object_word (ABag locales segments room) = codes "bag"
-object_word (ADeque locales capacity) = codes "deque"
+abbrev pub numbers_of : Line → Numbers
+numbers_of line = (line_parts line).1
 
 -- a call that is tried once has `try` before it
-abbrev pub with_try : Bool → List (List ℕ) → List (List ℕ)
-with_try true words = codes "try" ∷ words
-with_try false words = words
+abbrev pub try_before : Bool → List (List ℕ)
+try_before true = codes "try" ∷ []
+try_before false = []
+
+-- the words before the last one
+abbrev pub fronts : Line → List (List ℕ)
+fronts Pgas = codes "pgas" ∷ []
+fronts (Object object) = codes "object" ∷ []
+fronts (ACall call) = try_before (is_once call)
+fronts line = []
 
 -- the words before the numbers of a line
 abbrev pub words_of : Line → List (List ℕ)
-words_of Pgas = codes "pgas" ∷ codes "1" ∷ []
-words_of (Object object) = codes "object" ∷ object_word object ∷ []
-words_of (Callers callers) = codes "callers" ∷ []
-words_of (Caller caller) = codes "caller" ∷ []
-words_of Round = codes "round" ∷ []
-words_of (ACall call) = with_try (is_once call) (call_word call ∷ [])
-words_of End = codes "end" ∷ []
-
--- ---- numbers of a line
-
-abbrev pub list_numbers : ListCall → Numbers
-list_numbers (Read at) = one at
-list_numbers (Write at value) = two at value
-list_numbers (Swap at old new) = three at old new
-list_numbers (Add at value) = two at value
-list_numbers (Grow to) = one to
-list_numbers Len = none
-
-abbrev pub bag_numbers : BagCall → Numbers
-bag_numbers (Put item) = one item
-bag_numbers Remove = none
-
-abbrev pub deque_numbers : DequeCall → Numbers
-deque_numbers (PushBack item) = one item
-deque_numbers (PushFront item) = one item
-deque_numbers PopBack = none
-deque_numbers PopFront = none
-
-abbrev pub call_numbers : Call → Numbers
-call_numbers (OfList call) = list_numbers call
-call_numbers (OfBag call once) = bag_numbers call
-call_numbers (OfDeque call once) = deque_numbers call
-
-abbrev pub object_numbers : ObjectLine → Numbers
-object_numbers (AList locales objects width) = three locales objects width
-object_numbers (ABag locales segments room) = three locales segments room
-object_numbers (ADeque locales capacity) = two locales capacity
-
-abbrev pub numbers_of : Line → Numbers
-numbers_of (Object object) = object_numbers object
-numbers_of (Callers callers) = one callers
-numbers_of (Caller caller) = one caller
-numbers_of (ACall call) = call_numbers call
-numbers_of line = none
-
--- the words of a line, with these numbers
-abbrev pub words_with : Line → Numbers → List (List ℕ)
-words_with line numbers = words_of line ++ map decimal (listed numbers)
+words_of line = fronts line ++ (line_parts line).0 ∷ []
 
 -- all words of a line
 abbrev pub line_words : Line → List (List ℕ)
-line_words line = words_with line (numbers_of line)
+line_words line = words_of line ++ map decimal (listed (numbers_of line))
 
 -- parted by one space
 abbrev pub written_line : Line → List ℕ
 written_line line = words_line (line_words line) ++ 10 ∷ []
 
--- ---- the line of a row with other numbers
+abbrev pub object_of : Kind → Numbers → ObjectLine
+object_of KList n = AList (nth n 0) (nth n 1) (nth n 2)
+object_of KBag n = ABag (nth n 0) (nth n 1) (nth n 2)
+object_of KDeque n = ADeque (nth n 0) (nth n 1)
 
-abbrev pub list_made : ListCall → Numbers → ListCall
-list_made (Read at) numbers = Read numbers.first
-list_made (Write at value) numbers = Write numbers.first numbers.second
-list_made (Swap at old new) numbers = Swap numbers.first numbers.second numbers.third
-list_made (Add at value) numbers = Add numbers.first numbers.second
-list_made (Grow to) numbers = Grow numbers.first
-list_made Len numbers = Len
+-- the line of a row with these numbers
+abbrev pub made : Row → Numbers → Line
+made (ObjectRow kind) n = Object (object_of kind n)
+made (CallersRow object) n = Callers (nth n 0)
+made (CallerRow callers) n = Caller (nth n 0)
+made (CallRow kind word once) n = ACall (call_of kind word once n)
 
-abbrev pub bag_made : BagCall → Numbers → BagCall
-bag_made (Put item) numbers = Put numbers.first
-bag_made Remove numbers = Remove
-
-abbrev pub deque_made : DequeCall → Numbers → DequeCall
-deque_made (PushBack item) numbers = PushBack numbers.first
-deque_made (PushFront item) numbers = PushFront numbers.first
-deque_made PopBack numbers = PopBack
-deque_made PopFront numbers = PopFront
-
-abbrev pub call_made : Call → Numbers → Call
-call_made (OfList call) numbers = OfList (list_made call numbers)
-call_made (OfBag call once) numbers = OfBag (bag_made call numbers) once
-call_made (OfDeque call once) numbers = OfDeque (deque_made call numbers) once
-
-abbrev pub object_made : ObjectLine → Numbers → ObjectLine
-object_made (AList locales objects width) numbers = AList numbers.first numbers.second numbers.third
-object_made (ABag locales segments room) numbers = ABag numbers.first numbers.second numbers.third
-object_made (ADeque locales capacity) numbers = ADeque numbers.first numbers.second
-
-abbrev pub made : Line → Numbers → Line
-made (Object object) numbers = Object (object_made object numbers)
-made (Callers callers) numbers = Callers numbers.first
-made (Caller caller) numbers = Caller numbers.first
-made (ACall call) numbers = ACall (call_made call numbers)
-made line numbers = line
+-- its last word
+abbrev pub row_word : Row → List ℕ
+row_word row = (line_parts (made row Zero)).0
 
 -- the numbers fit the fields of an object
-abbrev pub IsMakeableObject : ObjectLine → Numbers → Type 0
-IsMakeableObject (ADeque locales capacity) numbers = (numbers.first < 2 ^ 8) × (numbers.second < 2 ^ 32)
-IsMakeableObject object numbers = (numbers.first < 2 ^ 8) × (numbers.second < 2 ^ 32) × (numbers.third < 2 ^ 32)
+abbrev pub IsMakeableObject : Numbers → Type 0
+IsMakeableObject n = (nth n 0 < 2 ^ 8) × (nth n 1 < 2 ^ 32) × (nth n 2 < 2 ^ 32)
 
 -- and those of a line
-abbrev pub IsMakeable : Line → Numbers → Type 0
-IsMakeable (Object object) numbers = IsMakeableObject object numbers
-IsMakeable (Callers callers) numbers = numbers.first < 2 ^ 32
-IsMakeable (Caller caller) numbers = numbers.first < 2 ^ 32
-IsMakeable line numbers = Unit {0}
+abbrev pub IsMakeable : Row → Numbers → Type 0
+IsMakeable (ObjectRow kind) n = IsMakeableObject n
+IsMakeable (CallRow kind word once) n = Unit {0}
+IsMakeable row n = nth n 0 < 2 ^ 32

@@ -4,13 +4,14 @@ use Rattle.shared_io.specs.declared.limits.TooKind.TheVariants.{Calls}
 use Rattle.line_text.specs.declared.faults.TextFault.{TextFault}
 use Rattle.line_text.specs.Texts.{Rules, Text, text_of, HasText, IsOpen as TextIsOpen, IsRefused as TextIsRefused}
 use Rattle.script_text.specs.declared.forms.Spot.{Spot}
+use Rattle.script_text.specs.declared.forms.Spot.TheVariants.{Start}
 use Rattle.script_text.specs.declared.scripts.Call.{Call}
 use Rattle.script_text.specs.declared.lines.Line.{Line}
 use Rattle.script_text.specs.declared.lines.Line.TheVariants.{Callers, Round, Call as ACall, End}
 use Rattle.script_text.specs.declared.lines.Stage.{Stage}
 use Rattle.script_text.specs.declared.lines.Stage.TheVariants.{AtPgas, InRound}
 use Rattle.script_text.specs.Drafts.{Progress}
-use Rattle.script_text.specs.Forms.{start_of, script_grammar}
+use Rattle.script_text.specs.Forms.{script_grammar}
 use Rattle.script_text.specs.Lines.{stage_after, caller_at}
 use Rattle.script_text.specs.Scripts.{PlainScript}
 
@@ -59,7 +60,7 @@ is_end said = false
 abbrev pub script_rules : Rules Progress Spot Line
 script_rules = record {
   opening = beginning;
-  start = λ at. start_of at.stage;
+  start = λ at. Start at.stage;
   after = after;
   counts = is_counted;
   most = 2 ^ 20;

@@ -3,7 +3,7 @@ ghost use Rattle.line_text.specs.Lines.{IsSaid};
 ghost use Rattle.script_text.specs.Forms.{IsSpot, script_grammar};
 ghost use Rattle.script_text.specs.Lines.{IsInRound, caller_at};
 ghost use Rattle.script_text.specs.Scripts.{plain_round, plain_script};
-ghost use Rattle.script_text.specs.ScriptText.{beginning, after, line_after, before_after, calls_after, with_call, is_counted, is_end, script_rules, IsMade};
+ghost use Rattle.script_text.specs.ScriptText.{beginning, after, before_after, calls_after, with_call, is_counted, is_end, script_rules, IsMade};
 
 use crate::forms::Spot;
 use crate::lines::{Line, Stage};
@@ -58,12 +58,7 @@ impl ScriptDraft {
             before: mut rounds,
             calls,
         } = self;
-        let Stage::InRound {
-            object,
-            callers,
-            ..
-        } = stage
-        else {
+        let Stage::InRound(object, callers, _) = stage else {
             unreachable!()
         };
         rounds.push(Round { calls })?;
@@ -72,23 +67,6 @@ impl ScriptDraft {
             callers,
             rounds,
         })
-    }
-
-    /// Takes what a line says.
-    #[inline(always)]
-    fn take_line(&mut self, line: Line) -> Result<(), AllocError>
-        ensures { OnOk result (self.new ≡ line_after self.old line) }
-    {
-        match line {
-            Line::Callers { callers } => {
-                self.calls = silence(*self.calls.allocator(), callers as usize)?;
-            }
-            Line::Round => end_round(&mut self.before, &mut self.calls)?,
-            Line::Call { call } => push_call(&mut self.calls, self.stage.caller(), call)?,
-            _ => (),
-        }
-        self.stage = self.stage.after(line);
-        Ok(())
     }
 }
 
@@ -102,14 +80,14 @@ impl Draft<Line, Spot> for ScriptDraft {
     // What is asked and taken for each line is inlined into the reader's loop, so that no line is copied from call to call.
     #[inline(always)]
     fn start(&self) -> Spot {
-        self.stage.start()
+        Spot::Start(self.stage)
     }
 
     #[inline(always)]
     fn counts(&self, said: Option<Line>) -> bool
         ensures { result ≡ is_counted said }
     {
-        matches!(said, Some(Line::Round | Line::Call { .. }))
+        matches!(said, Some(Line::Round | Line::Call(_)))
     }
 
     fn most(&self) -> u64 {
@@ -138,10 +116,19 @@ impl Draft<Line, Spot> for ScriptDraft {
         requires { IsSaid script_grammar IsSpot said }
         ensures { OnOk result (self.new ≡ after self.old said) }
     {
-        match said {
-            Some(line) => self.take_line(line),
-            None => Ok(()),
+        let Some(line) = said else {
+            return Ok(());
+        };
+        match line {
+            Line::Callers(callers) => {
+                self.calls = silence(*self.calls.allocator(), callers as usize)?;
+            }
+            Line::Round => end_round(&mut self.before, &mut self.calls)?,
+            Line::Call(call) => push_call(&mut self.calls, self.stage.caller(), call)?,
+            _ => (),
         }
+        self.stage = self.stage.after(line);
+        Ok(())
     }
 }
 

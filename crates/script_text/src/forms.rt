@@ -1,11 +1,12 @@
-ghost use Rattle.std.specs.Prelude.{◌≡◌, ◌<◌, ◌^◌, ◌++◌, [], length, map, slice_index_or};
-ghost use Rattle.script_text.specs.Forms.{IsSpot, script_grammar, start_of, speaker_of, row_spot, call_spot, tries, round_words, round_leads, object_row, body_leads, between, list_bounds, object_bounds, bounds_of, row_leads, IsListFront, IsObjectFront, IsFront};
-ghost use Rattle.script_text.specs.Rows.{calls_of, call_word, numbers_of, IsMakeable};
+ghost use Rattle.std.specs.Prelude.{◌≡◌, ◌<◌, [], length, slice_index_or};
+ghost use Rattle.script_text.specs.Forms.{IsSpot, IsFront, script_grammar, kind_at, calls_at, round_start, round_leads, row_spot, between, object_bounds, bounds_of};
+ghost use Rattle.script_text.specs.Rows.{IsMakeable, row_word};
+ghost use Rattle.script_text.specs.declared.rows.Numbers.TheVariants.{Zero};
+ghost use Rattle.script_text.specs.declared.rows.Row.TheVariants.{Object as ObjectRow};
 ghost use Rattle.script_text.specs.Sound.{script_grammar_sound};
 
 use crate::lines::{Kind, Line, Stage};
-use crate::rows::{Numbers, call_word, calls_of, made, none, numbers_of, object_word, tried};
-use crate::scripts::{Call, ObjectLine};
+use crate::rows::{Numbers, Row, line_parts, made};
 use line_text::{Bounds, Form, Reject};
 use pgas_base::{LEAST_WIDTH, MOST_LOCALES, MOST_OBJECTS, MOST_WIDTH, MOST_WORDS};
 use seq_objects::{MOST_CAPACITY, MOST_ROOM, MOST_SEGMENTS};
@@ -13,169 +14,103 @@ use seq_objects::{MOST_CAPACITY, MOST_ROOM, MOST_SEGMENTS};
 /// Which words a line of a script may go on with, behind those that were read.
 #[derive(Clone, Copy, Debug, PartialEq, Eq)]
 pub enum Spot {
-    Pgas,
+    /// At the front of a line.
+    Start(Stage),
     /// Behind `pgas`.
     Version,
-    Object,
     /// Behind `object`.
     Kind,
-    /// Before the word `callers`, where there may be so many.
-    Callers {
-        most: u32,
-    },
-    /// At the front of a line of a round, behind a `caller` line of an object of this kind, if there was one.
-    Body {
-        speaker: Option<Kind>,
-        callers: u32,
-    },
     /// Behind `try`.
-    Try {
-        kind: Kind,
-    },
-    /// Behind all words of a line and some of its numbers. Those of the line itself are 0.
-    Row {
-        row: Line,
-        /// The greatest number that may stand here, where that doesn't depend on the numbers before.
-        most: u64,
-        numbers: Numbers,
-    },
-    Whole {
-        line: Line,
-    },
+    Try(Kind),
+    /// Behind all words of a row, and some of its numbers.
+    Row { row: Row, numbers: Numbers },
+    Whole(Line),
 }
 
-impl Stage {
-    /// Where a line starts.
-    #[inline(always)]
-    pub fn start(self) -> Spot
-        ensures start { result ≡ start_of self }
-        ensures form { IsSpot result }
-    {
-        match self {
-            Stage::AtPgas => Spot::Pgas,
-            Stage::AtObject => Spot::Object,
-            Stage::AtCallers { object } => Spot::Callers {
-                most: object.most_callers(),
-            },
-            Stage::InRound {
-                object,
-                callers,
-                caller,
-            } => body(speaker(object, caller), callers),
-        }
+// ---- words
+
+/// The kind of object whose word has this number.
+fn kind_at(index: usize) -> Kind
+    ensures { result ≡ kind_at index }
+{
+    match index {
+        0 => Kind::List,
+        1 => Kind::Bag,
+        _ => Kind::Deque,
     }
 }
 
-/// Whose calls may come, behind a `caller` line.
+/// How many calls a line may begin with, if a `caller` line stands before it.
 #[inline(always)]
-fn speaker(object: ObjectLine, caller: Option<u32>) -> Option<Kind>
-    ensures { result ≡ speaker_of object caller }
+fn calls_at(kind: Kind, spoken: bool) -> usize
+    ensures { result ≡ calls_at spoken kind }
 {
-    caller.map(|_| object.kind())
-}
-
-#[inline(always)]
-fn body(speaker: Option<Kind>, callers: u32) -> Spot
-    ensures body { result ≡ Spot.Body speaker callers }
-    ensures few { callers < 2 ^ 32 }
-{
-    Spot::Body { speaker, callers }
-}
-
-/// Where the words of a row lead.
-#[inline(always)]
-fn row_spot(row: Line, most: u64) -> Spot
-    ensures { result ≡ row_spot row most }
-{
-    if numbers_of(row).count == 0 {
-        return Spot::Whole { line: row };
+    match kind {
+        _ if !spoken => 0,
+        Kind::List => 6,
+        Kind::Bag => 2,
+        Kind::Deque => 4,
     }
-    Spot::Row {
-        row,
-        most,
-        numbers: none(),
-    }
-}
-
-#[inline(always)]
-fn call_spot(row: Call) -> Spot
-    ensures { result ≡ call_spot row }
-{
-    row_spot(Line::Call { call: row }, u64::MAX)
-}
-
-/// A call may be tried once by a caller that is alone.
-fn tries(speaker: Option<Kind>, callers: u32) -> bool
-    ensures { result ≡ tries speaker callers }
-{
-    matches!(speaker, Some(Kind::Bag | Kind::Deque)) && callers == 1
 }
 
 /// A word that begins a line of a round.
 #[inline(always)]
-fn body_word(speaker: Option<Kind>, callers: u32, index: usize) -> &'static [u8]
-    requires { index < length (map call_word (calls_of speaker) ++ round_words (tries speaker callers)) }
-    ensures { result.now ≡ slice_index_or (map call_word (calls_of speaker) ++ round_words (tries speaker callers)) index [] }
+fn round_word(kind: Kind, callers: u32, spoken: bool, index: usize) -> &'static str
+    requires { index < length (round_start spoken kind callers) }
+    ensures { result.now ≡ slice_index_or (round_start spoken kind callers) index [] }
 {
-    let calls = calls_of(speaker);
-    if index < calls.len() {
-        return call_word(calls[index]).as_bytes();
+    let calls = calls_at(kind, spoken);
+    if index < calls {
+        return row_word(Row::Call(kind, index, false));
     }
-    match index - calls.len() {
-        0 => b"caller",
-        1 => b"round",
-        2 => b"end",
-        _ => b"try",
+    match index - calls {
+        0 => "caller",
+        1 => "round",
+        2 => "end",
+        _ => "try",
     }
 }
 
 /// Where it leads.
 #[inline(always)]
-fn body_leads(speaker: Option<Kind>, callers: u32, index: usize) -> Spot
-    ensures { result ≡ body_leads speaker callers index }
+fn round_leads(kind: Kind, callers: u32, spoken: bool, index: usize) -> Spot
+    ensures { result ≡ round_leads spoken kind callers index }
 {
-    let calls = calls_of(speaker);
-    if index < calls.len() {
-        return call_spot(calls[index]);
+    let calls = calls_at(kind, spoken);
+    if index < calls {
+        return row_spot(Row::Call(kind, index, false), Numbers::Zero);
     }
-    round_leads(speaker, callers, index - calls.len())
-}
-
-fn round_leads(speaker: Option<Kind>, callers: u32, index: usize) -> Spot
-    ensures { result ≡ round_leads speaker callers index }
-{
-    match (index, speaker) {
-        (0, _) => row_spot(
-            Line::Caller { caller: 0 },
-            u64::from(callers.saturating_sub(1)),
-        ),
-        (1, _) => Spot::Whole { line: Line::Round },
-        (2, _) | (_, None) => Spot::Whole { line: Line::End },
-        (_, Some(kind)) => Spot::Try { kind },
+    match index - calls {
+        0 => row_spot(Row::Caller(callers), Numbers::Zero),
+        1 => Spot::Whole(Line::Round),
+        2 => Spot::Whole(Line::End),
+        _ => Spot::Try(kind),
     }
 }
 
-/// The row of an object, by the number of its word.
-fn object_row(index: usize) -> ObjectLine
-    ensures { result ≡ object_row index }
+/// The last word of a row.
+#[inline(always)]
+fn row_word(row: Row) -> &'static str
+    requires { IsMakeable row Zero }
+    ensures { result.now ≡ row_word row }
 {
-    match index {
-        0 => ObjectLine::List {
-            locales: 0,
-            objects: 0,
-            width: 0,
-        },
-        1 => ObjectLine::Bag {
-            locales: 0,
-            segments: 0,
-            room: 0,
-        },
-        _ => ObjectLine::Deque {
-            locales: 0,
-            capacity: 0,
-        },
-    }
+    line_parts(made(row, Numbers::Zero)).0
 }
+
+/// Behind these numbers of a row.
+#[inline(always)]
+fn row_spot(row: Row, numbers: Numbers) -> Spot
+    requires { IsMakeable row numbers }
+    ensures { result ≡ row_spot row numbers }
+{
+    let line = made(row, numbers);
+    if line_parts(line).1.count() == numbers.count() {
+        return Spot::Whole(line);
+    }
+    Spot::Row { row, numbers }
+}
+
+// ---- numbers
 
 #[inline(always)]
 fn between(least: u64, most: u64) -> Bounds
@@ -188,68 +123,42 @@ fn between(least: u64, most: u64) -> Bounds
     }
 }
 
-/// The numbers that may come next in a row, so that those behind them still have one.
+/// The numbers that may come next in a row, so that those behind them still have one. The objects of a
+/// list leave room for rows of the least width, and the width for all of them. An object has two words
+/// beside its row.
 #[inline(always)]
-fn bounds_of(row: Line, most: u64, numbers: Numbers) -> Bounds
-    requires { IsFront row most numbers }
-    ensures { result ≡ bounds_of row most numbers }
+fn object_bounds(kind: Kind, numbers: Numbers) -> Bounds
+    requires { IsFront (ObjectRow kind) numbers }
+    ensures { result ≡ object_bounds numbers kind }
 {
-    match row {
-        Line::Object { object } => object_bounds(object, numbers),
-        Line::Callers { .. } => between(1, most),
-        _ => between(0, most),
-    }
-}
-
-#[inline(always)]
-fn object_bounds(row: ObjectLine, numbers: Numbers) -> Bounds
-    requires { IsObjectFront row numbers }
-    ensures { result ≡ object_bounds row numbers }
-{
-    if numbers.count == 0 {
-        return between(1, u64::from(MOST_LOCALES));
-    }
-    match row {
-        ObjectLine::List { .. } => list_bounds(numbers),
-        ObjectLine::Bag { .. } if numbers.count == 1 => between(1, u64::from(MOST_SEGMENTS)),
-        ObjectLine::Bag { .. } => between(1, u64::from(MOST_ROOM)),
-        ObjectLine::Deque { .. } => between(1, u64::from(MOST_CAPACITY)),
-    }
-}
-
-/// The objects of a list leave room for rows of the least width, and the width for all of them. An
-/// object has two words beside its row.
-fn list_bounds(numbers: Numbers) -> Bounds
-    requires some { 0 < numbers.count }
-    requires front { IsListFront numbers }
-    ensures { result ≡ list_bounds numbers }
-{
-    let Numbers {
-        first: locales,
-        second: objects,
-        ..
-    } = numbers;
     let least = u64::from(LEAST_WIDTH);
-    if numbers.count == 1 {
-        let most = MOST_WORDS / ((least + 2) * locales);
-        return between(2, most.min(u64::from(MOST_OBJECTS)));
+    match (numbers, kind) {
+        (Numbers::Zero, _) => between(1, u64::from(MOST_LOCALES)),
+        (Numbers::One(locales), Kind::List) => {
+            let most = MOST_WORDS / ((least + 2) * locales);
+            between(2, most.min(u64::from(MOST_OBJECTS)))
+        }
+        (Numbers::Two(locales, objects), Kind::List) => {
+            let most = MOST_WORDS / (locales * objects) - 2;
+            between(least, most.min(u64::from(MOST_WIDTH)))
+        }
+        (Numbers::One(_), Kind::Bag) => between(1, u64::from(MOST_SEGMENTS)),
+        (_, Kind::Bag) => between(1, u64::from(MOST_ROOM)),
+        _ => between(1, u64::from(MOST_CAPACITY)),
     }
-    let most = MOST_WORDS / (locales * objects) - 2;
-    between(least, most.min(u64::from(MOST_WIDTH)))
 }
 
-/// Where one more number of a row leads.
 #[inline(always)]
-fn row_leads(row: Line, most: u64, numbers: Numbers) -> Spot
-    requires { numbers.count ≡ (numbers_of row).count → IsMakeable row numbers }
-    ensures { result ≡ row_leads row most numbers }
+fn bounds_of(row: Row, numbers: Numbers) -> Bounds
+    requires { IsFront row numbers }
+    ensures { result ≡ bounds_of row numbers }
 {
-    if numbers.count == numbers_of(row).count {
-        return Spot::Whole {
-            line: made(row, numbers),
-        };
+    match row {
+        Row::Object(kind) => object_bounds(kind, numbers),
+        Row::Callers(object) => between(1, u64::from(object.most_callers())),
+        Row::Caller(callers) => between(0, u64::from(callers.saturating_sub(1))),
+        Row::Call(..) => between(0, u64::MAX),
     }
-    Spot::Row { row, most, numbers }
 }
 
 impl Form<Line> for Spot {
@@ -262,53 +171,57 @@ impl Form<Line> for Spot {
     #[inline(always)]
     fn word_count(self) -> usize {
         match self {
-            Spot::Pgas | Spot::Version | Spot::Object | Spot::Callers { .. } => 1,
-            Spot::Kind => 3,
-            Spot::Body { speaker, callers } => {
-                calls_of(speaker).len() + 3 + usize::from(tries(speaker, callers))
+            Spot::Start(Stage::InRound(object, callers, caller)) => {
+                let (kind, spoken) = (object.kind(), caller.is_some());
+                // A call of a bag or a deque may be tried once by a caller that is alone.
+                let tries = spoken && !matches!(kind, Kind::List) && callers == 1;
+                calls_at(kind, spoken) + 3 + usize::from(tries)
             }
-            Spot::Try { kind } => calls_of(Some(kind)).len(),
-            Spot::Row { .. } | Spot::Whole { .. } => 0,
+            Spot::Start(_) | Spot::Version => 1,
+            Spot::Kind => 3,
+            Spot::Try(kind) => calls_at(kind, true),
+            Spot::Row { .. } | Spot::Whole(_) => 0,
         }
     }
 
     #[inline(always)]
     fn word(self, index: usize) -> &'static [u8] {
-        match self {
-            Spot::Pgas => b"pgas",
-            Spot::Version => b"1",
-            Spot::Object => b"object",
-            Spot::Kind => object_word(object_row(index)).as_bytes(),
-            Spot::Callers { .. } => b"callers",
-            Spot::Body { speaker, callers } => body_word(speaker, callers, index),
-            Spot::Try { kind } => call_word(calls_of(Some(kind))[index]).as_bytes(),
-            Spot::Row { .. } | Spot::Whole { .. } => b"",
-        }
+        let word = match self {
+            Spot::Start(Stage::AtPgas) => "pgas",
+            Spot::Start(Stage::AtObject) => "object",
+            Spot::Start(Stage::AtCallers(_)) => "callers",
+            Spot::Start(Stage::InRound(object, callers, caller)) => {
+                round_word(object.kind(), callers, caller.is_some(), index)
+            }
+            Spot::Version => "1",
+            Spot::Kind => row_word(Row::Object(kind_at(index))),
+            Spot::Try(kind) => row_word(Row::Call(kind, index, false)),
+            Spot::Row { .. } | Spot::Whole(_) => "",
+        };
+        word.as_bytes()
     }
 
     #[inline(always)]
     fn after_word(self, index: usize) -> Self {
-        match self {
-            Spot::Pgas => Spot::Version,
-            Spot::Version => Spot::Whole { line: Line::Pgas },
-            Spot::Object => Spot::Kind,
-            Spot::Kind => row_spot(
-                Line::Object {
-                    object: object_row(index),
-                },
-                0,
-            ),
-            Spot::Callers { most } => row_spot(Line::Callers { callers: 0 }, u64::from(most)),
-            Spot::Body { speaker, callers } => body_leads(speaker, callers, index),
-            Spot::Try { kind } => call_spot(tried(calls_of(Some(kind))[index])),
-            Spot::Row { .. } | Spot::Whole { .. } => self,
-        }
+        let row = match self {
+            Spot::Start(Stage::AtPgas) => return Spot::Version,
+            Spot::Start(Stage::AtObject) => return Spot::Kind,
+            Spot::Start(Stage::AtCallers(object)) => Row::Callers(object),
+            Spot::Start(Stage::InRound(object, callers, caller)) => {
+                return round_leads(object.kind(), callers, caller.is_some(), index);
+            }
+            Spot::Version => return Spot::Whole(Line::Pgas),
+            Spot::Kind => Row::Object(kind_at(index)),
+            Spot::Try(kind) => Row::Call(kind, index, true),
+            Spot::Row { .. } | Spot::Whole(_) => return self,
+        };
+        row_spot(row, Numbers::Zero)
     }
 
     #[inline(always)]
     fn bounds(self) -> Option<Bounds> {
         match self {
-            Spot::Row { row, most, numbers } => Some(bounds_of(row, most, numbers)),
+            Spot::Row { row, numbers } => Some(bounds_of(row, numbers)),
             _ => None,
         }
     }
@@ -316,7 +229,7 @@ impl Form<Line> for Spot {
     #[inline(always)]
     fn after_number(self, number: u64) -> Self {
         match self {
-            Spot::Row { row, most, numbers } => row_leads(row, most, numbers.with(number)),
+            Spot::Row { row, numbers } => row_spot(row, numbers.with(number)),
             _ => self,
         }
     }
@@ -324,7 +237,7 @@ impl Form<Line> for Spot {
     #[inline(always)]
     fn says(self) -> Option<Line> {
         match self {
-            Spot::Whole { line } => Some(line),
+            Spot::Whole(line) => Some(line),
             _ => None,
         }
     }

@@ -1,5 +1,6 @@
 ghost use Rattle.std.specs.Prelude.{◌≡◌};
-ghost use Rattle.script_text.specs.Lines.{kind_of, most_callers, caller_at, stage_after};
+ghost use Rattle.script_text.specs.Lines.{most_callers, caller_at, stage_after};
+ghost use Rattle.script_text.specs.Rows.{kind_of};
 
 use crate::scripts::{Call, ObjectLine};
 
@@ -19,13 +20,13 @@ pub enum Kind {
 pub enum Line {
     /// The first line, `pgas 1`.
     Pgas,
-    Object { object: ObjectLine },
-    Callers { callers: u32 },
+    Object(ObjectLine),
+    Callers(u32),
     /// The calls that follow are this caller's.
-    Caller { caller: u32 },
+    Caller(u32),
     /// A new round begins.
     Round,
-    Call { call: Call },
+    Call(Call),
     End,
 }
 
@@ -37,15 +38,10 @@ pub enum Stage {
     /// The object's line.
     AtObject,
     /// The line that says how many callers there are.
-    AtCallers {
-        object: ObjectLine,
-    },
-    /// A line of a round, or the end. `caller` is that of the round's last `caller` line.
-    InRound {
-        object: ObjectLine,
-        callers: u32,
-        caller: Option<u32>,
-    },
+    AtCallers(ObjectLine),
+    /// A line of a round of so many callers, or the end, behind the `caller` line of one of them if the
+    /// round has one so far.
+    InRound(ObjectLine, u32, Option<u32>),
 }
 
 impl ObjectLine {
@@ -78,10 +74,7 @@ impl Stage {
         ensures { result ≡ caller_at self }
     {
         match self {
-            Stage::InRound {
-                caller: Some(caller),
-                ..
-            } => caller as usize,
+            Stage::InRound(_, _, Some(caller)) => caller as usize,
             _ => 0,
         }
     }
@@ -93,38 +86,17 @@ impl Stage {
     {
         match (self, line) {
             (Stage::AtPgas, _) => Stage::AtObject,
-            (Stage::AtObject, Line::Object { object }) => Stage::AtCallers { object },
-            (Stage::AtCallers { object }, Line::Callers { callers }) => {
-                in_round(object, callers, None)
+            (Stage::AtObject, Line::Object(object)) => Stage::AtCallers(object),
+            (Stage::AtCallers(object), Line::Callers(callers)) => {
+                Stage::InRound(object, callers, None)
             }
-            (
-                Stage::InRound {
-                    object,
-                    callers,
-                    ..
-                },
-                Line::Caller { caller },
-            ) => { in_round(object, callers, Some(caller)) }
-            (
-                Stage::InRound {
-                    object,
-                    callers,
-                    ..
-                },
-                Line::Round,
-            ) => { in_round(object, callers, None) }
+            (Stage::InRound(object, callers, _), Line::Caller(caller)) => {
+                Stage::InRound(object, callers, Some(caller))
+            }
+            (Stage::InRound(object, callers, _), Line::Round) => {
+                Stage::InRound(object, callers, None)
+            }
             (stage, _) => stage,
         }
-    }
-}
-
-#[inline(always)]
-fn in_round(object: ObjectLine, callers: u32, caller: Option<u32>) -> Stage
-    ensures { result ≡ Stage.InRound object callers caller }
-{
-    Stage::InRound {
-        object,
-        callers,
-        caller,
     }
 }

@@ -1,402 +1,259 @@
 //! The words and the numbers of each line.
 //!
-//! A line is words, and then numbers. One whose numbers are 0 is the row of a table: it stands for all
-//! lines of its form. So another call is a line of each function here that is about calls.
+//! A row is a line but for its numbers. That of a call is the number of the call's word among those of its
+//! kind: so another call is a line of its kind's two functions here.
 ghost use Rattle.std.specs.Prelude.{◌≡◌};
-ghost use Rattle.script_text.specs.Rows.{none, one, two, three, with_number, calls_of, call_word, object_word, call_numbers, object_numbers, numbers_of, list_made, bag_made, deque_made, call_made, object_made, made, IsMakeable, IsMakeableObject, tried, list_word, bag_word, deque_word, list_numbers, bag_numbers, deque_numbers};
+ghost use Rattle.script_text.specs.Rows.{count, nth, with_number, call_of, list_parts, bag_parts, deque_parts, call_parts, call_numbers, object_of, object_parts, line_parts, numbers_of, made, IsMakeable, IsMakeableObject};
+ghost use Rattle.script_text.specs.declared.scripts.Call.TheVariants.{List as OfList, Bag as OfBag, Deque as OfDeque};
+ghost use Rattle.script_text.specs.declared.rows.Numbers.TheVariants.{Three};
 
 use crate::lines::{Kind, Line};
 use crate::scripts::{Call, ObjectLine};
 use seq_objects::{BagCall, DequeCall, ListCall};
 
-/// The first numbers of a line. Those behind the count are 0.
+/// The numbers of a line.
 #[derive(Clone, Copy, Debug, PartialEq, Eq)]
-pub struct Numbers {
-    pub count: u8,
-    pub first: u64,
-    pub second: u64,
-    pub third: u64,
+pub enum Numbers {
+    Zero,
+    One(u64),
+    Two(u64, u64),
+    Three(u64, u64, u64),
 }
 
 impl Numbers {
+    #[inline(always)]
+    pub fn count(self) -> u8
+        ensures { result ≡ count self }
+    {
+        match self {
+            Numbers::Zero => 0,
+            Numbers::One(..) => 1,
+            Numbers::Two(..) => 2,
+            Numbers::Three(..) => 3,
+        }
+    }
+
     /// With one more at the end.
+    #[inline(always)]
     pub fn with(self, number: u64) -> Numbers
         ensures { result ≡ with_number self number }
     {
-        match self.count {
-            0 => one(number),
-            1 => two(self.first, number),
-            _ => three(self.first, self.second, number),
+        match self {
+            Numbers::Zero => Numbers::One(number),
+            Numbers::One(first) => Numbers::Two(first, number),
+            Numbers::Two(first, second) | Numbers::Three(first, second, _) => {
+                Numbers::Three(first, second, number)
+            }
+        }
+    }
+
+    /// Three of them. Those that are not there are 0.
+    #[inline(always)]
+    fn three(self) -> (u64, u64, u64)
+        ensures first { result.0 ≡ nth self 0 }
+        ensures second { result.1 ≡ nth self 1 }
+        ensures third { result.2 ≡ nth self 2 }
+    {
+        match self {
+            Numbers::Zero => (0, 0, 0),
+            Numbers::One(first) => (first, 0, 0),
+            Numbers::Two(first, second) => (first, second, 0),
+            Numbers::Three(first, second, third) => (first, second, third),
         }
     }
 }
 
-pub fn none() -> Numbers
-    ensures { result ≡ none }
-{
-    Numbers {
-        count: 0,
-        first: 0,
-        second: 0,
-        third: 0,
-    }
+/// A line but for its numbers.
+#[derive(Clone, Copy, Debug, PartialEq, Eq)]
+pub enum Row {
+    Object(Kind),
+    /// Where the script is of this object.
+    Callers(ObjectLine),
+    /// Where there are so many callers.
+    Caller(u32),
+    /// The call of this kind whose word has this number, and whether it is tried once.
+    Call(Kind, usize, bool),
 }
 
-fn one(first: u64) -> Numbers
-    ensures { result ≡ one first }
+// ---- calls, by the numbers of their words: those come first that come often
+
+fn list(call: ListCall) -> Call
+    ensures { result ≡ OfList call }
 {
-    Numbers {
-        count: 1,
-        first,
-        second: 0,
-        third: 0,
-    }
+    Call::List { call }
 }
 
-fn two(first: u64, second: u64) -> Numbers
-    ensures { result ≡ two first second }
+fn bag(call: BagCall, once: bool) -> Call
+    ensures { result ≡ OfBag call once }
 {
-    Numbers {
-        count: 2,
-        first,
-        second,
-        third: 0,
-    }
+    Call::Bag { call, once }
 }
 
-fn three(first: u64, second: u64, third: u64) -> Numbers
-    ensures { result ≡ three first second third }
+fn deque(call: DequeCall, once: bool) -> Call
+    ensures { result ≡ OfDeque call once }
 {
-    Numbers {
-        count: 3,
-        first,
-        second,
-        third,
-    }
+    Call::Deque { call, once }
 }
 
-/// The rows of the calls that may come, those that come often first.
 #[inline(always)]
-pub fn calls_of(speaker: Option<Kind>) -> &'static [Call]
-    ensures { result.now ≡ calls_of speaker }
+fn call_of(kind: Kind, word: usize, once: bool, numbers: Numbers) -> Call
+    ensures { result ≡ call_of kind word once numbers }
 {
-    match speaker {
-        None => &[],
-        Some(Kind::List) => &[
-            Call::List {
-                call: ListCall::Read { at: 0 },
-            },
-            Call::List {
-                call: ListCall::Write { at: 0, value: 0 },
-            },
-            Call::List {
-                call: ListCall::Swap {
-                    at: 0,
-                    old: 0,
-                    new: 0,
-                },
-            },
-            Call::List {
-                call: ListCall::Add { at: 0, value: 0 },
-            },
-            Call::List {
-                call: ListCall::Grow { to: 0 },
-            },
-            Call::List {
-                call: ListCall::Len,
-            },
-        ],
-        Some(Kind::Bag) => &[
-            Call::Bag {
-                call: BagCall::Add { item: 0 },
-                once: false,
-            },
-            Call::Bag {
-                call: BagCall::Remove,
-                once: false,
-            },
-        ],
-        Some(Kind::Deque) => &[
-            Call::Deque {
-                call: DequeCall::PushBack { item: 0 },
-                once: false,
-            },
-            Call::Deque {
-                call: DequeCall::PushFront { item: 0 },
-                once: false,
-            },
-            Call::Deque {
-                call: DequeCall::PopBack,
-                once: false,
-            },
-            Call::Deque {
-                call: DequeCall::PopFront,
-                once: false,
-            },
-        ],
+    let (at, old, new) = numbers.three();
+    let item = at;
+    match (kind, word) {
+        (Kind::List, 0) => list(ListCall::Read { at }),
+        (Kind::List, 1) => list(ListCall::Write { at, value: old }),
+        (Kind::List, 2) => list(ListCall::Swap { at, old, new }),
+        (Kind::List, 3) => list(ListCall::Add { at, value: old }),
+        (Kind::List, 4) => list(ListCall::Grow { to: at }),
+        (Kind::List, _) => list(ListCall::Len),
+        (Kind::Bag, 0) => bag(BagCall::Add { item }, once),
+        (Kind::Bag, _) => bag(BagCall::Remove, once),
+        (Kind::Deque, 0) => deque(DequeCall::PushBack { item }, once),
+        (Kind::Deque, 1) => deque(DequeCall::PushFront { item }, once),
+        (Kind::Deque, 2) => deque(DequeCall::PopBack, once),
+        (Kind::Deque, _) => deque(DequeCall::PopFront, once),
     }
 }
 
-/// The same call, tried once.
-pub fn tried(call: Call) -> Call
-    ensures { result ≡ tried call }
+// ---- the words of calls, which `try` may stand before, and their numbers
+
+#[inline(always)]
+fn list_parts(call: ListCall) -> (&'static str, Numbers)
+    ensures word { result.0.now ≡ (list_parts call).0 }
+    ensures numbers { result.1 ≡ (list_parts call).1 }
 {
     match call {
-        Call::List { .. } => call,
-        Call::Bag { call, .. } => Call::Bag { call, once: true },
-        Call::Deque { call, .. } => Call::Deque { call, once: true },
+        ListCall::Read { at } => ("read", Numbers::One(at)),
+        ListCall::Write { at, value } => ("write", Numbers::Two(at, value)),
+        ListCall::Swap { at, old, new } => ("swap", Numbers::Three(at, old, new)),
+        ListCall::Add { at, value } => ("add", Numbers::Two(at, value)),
+        ListCall::Grow { to } => ("grow", Numbers::One(to)),
+        ListCall::Len => ("len", Numbers::Zero),
     }
 }
 
-// ---- words
-
-/// The word of a call, which `try` may stand before.
 #[inline(always)]
-pub fn call_word(call: Call) -> &'static str
-    ensures { result.now ≡ call_word call }
+fn bag_parts(call: BagCall) -> (&'static str, Numbers)
+    ensures word { result.0.now ≡ (bag_parts call).0 }
+    ensures numbers { result.1 ≡ (bag_parts call).1 }
 {
     match call {
-        Call::List { call } => list_word(call),
-        Call::Bag { call, .. } => bag_word(call),
-        Call::Deque { call, .. } => deque_word(call),
+        BagCall::Add { item } => ("add", Numbers::One(item)),
+        BagCall::Remove => ("remove", Numbers::Zero),
     }
 }
 
 #[inline(always)]
-fn list_word(call: ListCall) -> &'static str
-    ensures { result.now ≡ list_word call }
+fn deque_parts(call: DequeCall) -> (&'static str, Numbers)
+    ensures word { result.0.now ≡ (deque_parts call).0 }
+    ensures numbers { result.1 ≡ (deque_parts call).1 }
 {
     match call {
-        ListCall::Read { .. } => "read",
-        ListCall::Write { .. } => "write",
-        ListCall::Swap { .. } => "swap",
-        ListCall::Add { .. } => "add",
-        ListCall::Grow { .. } => "grow",
-        ListCall::Len => "len",
+        DequeCall::PushBack { item } => ("push_back", Numbers::One(item)),
+        DequeCall::PushFront { item } => ("push_front", Numbers::One(item)),
+        DequeCall::PopBack => ("pop_back", Numbers::Zero),
+        DequeCall::PopFront => ("pop_front", Numbers::Zero),
     }
 }
 
 #[inline(always)]
-fn bag_word(call: BagCall) -> &'static str
-    ensures { result.now ≡ bag_word call }
+fn call_parts(call: Call) -> (&'static str, Numbers)
+    ensures word { result.0.now ≡ (call_parts call).0 }
+    ensures numbers { result.1 ≡ call_numbers call }
 {
     match call {
-        BagCall::Add { .. } => "add",
-        BagCall::Remove => "remove",
+        Call::List { call } => list_parts(call),
+        Call::Bag { call, .. } => bag_parts(call),
+        Call::Deque { call, .. } => deque_parts(call),
     }
 }
 
-#[inline(always)]
-fn deque_word(call: DequeCall) -> &'static str
-    ensures { result.now ≡ deque_word call }
-{
-    match call {
-        DequeCall::PushBack { .. } => "push_back",
-        DequeCall::PushFront { .. } => "push_front",
-        DequeCall::PopBack => "pop_back",
-        DequeCall::PopFront => "pop_front",
-    }
-}
+// ---- lines
 
-/// The word behind `object`.
-pub fn object_word(object: ObjectLine) -> &'static str
-    ensures { result.now ≡ object_word object }
-{
-    match object {
-        ObjectLine::List { .. } => "list",
-        ObjectLine::Bag { .. } => "bag",
-        ObjectLine::Deque { .. } => "deque",
-    }
-}
-
-// ---- numbers
-
-/// The numbers of a line.
-#[inline(always)]
-pub fn numbers_of(line: Line) -> Numbers
-    ensures { result ≡ numbers_of line }
-{
-    match line {
-        Line::Object { object } => object_numbers(object),
-        Line::Callers { callers } => one(u64::from(callers)),
-        Line::Caller { caller } => one(u64::from(caller)),
-        Line::Call { call } => call_numbers(call),
-        Line::Pgas | Line::Round | Line::End => none(),
-    }
-}
-
-fn object_numbers(object: ObjectLine) -> Numbers
-    ensures { result ≡ object_numbers object }
+fn object_parts(object: ObjectLine) -> (&'static str, Numbers)
+    ensures word { result.0.now ≡ (object_parts object).0 }
+    ensures numbers { result.1 ≡ (object_parts object).1 }
 {
     match object {
         ObjectLine::List {
             locales,
             objects,
             width,
-        } => three(u64::from(locales), u64::from(objects), u64::from(width)),
+        } => ("list", three(locales, objects, width)),
         ObjectLine::Bag {
             locales,
             segments,
             room,
-        } => three(u64::from(locales), u64::from(segments), u64::from(room)),
-        ObjectLine::Deque { locales, capacity } => two(u64::from(locales), u64::from(capacity)),
+        } => ("bag", three(locales, segments, room)),
+        ObjectLine::Deque { locales, capacity } => {
+            (
+                "deque",
+                Numbers::Two(u64::from(locales), u64::from(capacity)),
+            )
+        }
     }
 }
 
-#[inline(always)]
-fn call_numbers(call: Call) -> Numbers
-    ensures { result ≡ call_numbers call }
+fn three(first: u8, second: u32, third: u32) -> Numbers
+    ensures { result ≡ Three first second third }
 {
-    match call {
-        Call::List { call } => list_numbers(call),
-        Call::Bag { call, .. } => bag_numbers(call),
-        Call::Deque { call, .. } => deque_numbers(call),
-    }
+    Numbers::Three(u64::from(first), u64::from(second), u64::from(third))
 }
 
+/// The last word of a line, and its numbers.
 #[inline(always)]
-fn list_numbers(call: ListCall) -> Numbers
-    ensures { result ≡ list_numbers call }
+pub fn line_parts(line: Line) -> (&'static str, Numbers)
+    ensures word { result.0.now ≡ (line_parts line).0 }
+    ensures numbers { result.1 ≡ numbers_of line }
 {
-    match call {
-        ListCall::Read { at } => one(at),
-        ListCall::Write { at, value } => two(at, value),
-        ListCall::Swap { at, old, new } => three(at, old, new),
-        ListCall::Add { at, value } => two(at, value),
-        ListCall::Grow { to } => one(to),
-        ListCall::Len => none(),
+    match line {
+        Line::Pgas => ("1", Numbers::Zero),
+        Line::Object(object) => object_parts(object),
+        Line::Callers(number) => ("callers", Numbers::One(u64::from(number))),
+        Line::Caller(number) => ("caller", Numbers::One(u64::from(number))),
+        Line::Round => ("round", Numbers::Zero),
+        Line::Call(call) => call_parts(call),
+        Line::End => ("end", Numbers::Zero),
     }
 }
 
-#[inline(always)]
-fn bag_numbers(call: BagCall) -> Numbers
-    ensures { result ≡ bag_numbers call }
+fn object_of(kind: Kind, numbers: Numbers) -> ObjectLine
+    requires { IsMakeableObject numbers }
+    ensures { result ≡ object_of kind numbers }
 {
-    match call {
-        BagCall::Add { item } => one(item),
-        BagCall::Remove => none(),
+    let (first, second, third) = numbers.three();
+    let (locales, second, third) = (first as u8, second as u32, third as u32);
+    match kind {
+        Kind::List => ObjectLine::List {
+            locales,
+            objects: second,
+            width: third,
+        },
+        Kind::Bag => ObjectLine::Bag {
+            locales,
+            segments: second,
+            room: third,
+        },
+        Kind::Deque => ObjectLine::Deque {
+            locales,
+            capacity: second,
+        },
     }
 }
 
+/// The line of a row with these numbers.
 #[inline(always)]
-fn deque_numbers(call: DequeCall) -> Numbers
-    ensures { result ≡ deque_numbers call }
-{
-    match call {
-        DequeCall::PushBack { item } | DequeCall::PushFront { item } => one(item),
-        DequeCall::PopBack | DequeCall::PopFront => none(),
-    }
-}
-
-// ---- the line of a row with these numbers
-
-#[inline(always)]
-pub fn made(row: Line, numbers: Numbers) -> Line
+pub fn made(row: Row, numbers: Numbers) -> Line
     requires { IsMakeable row numbers }
     ensures { result ≡ made row numbers }
 {
+    let (first, _, _) = numbers.three();
     match row {
-        Line::Object { object } => Line::Object {
-            object: object_made(object, numbers),
-        },
-        Line::Callers { .. } => Line::Callers {
-            callers: numbers.first as u32,
-        },
-        Line::Caller { .. } => Line::Caller {
-            caller: numbers.first as u32,
-        },
-        Line::Call { call } => Line::Call {
-            call: call_made(call, numbers),
-        },
-        Line::Pgas | Line::Round | Line::End => row,
-    }
-}
-
-fn object_made(row: ObjectLine, numbers: Numbers) -> ObjectLine
-    requires { IsMakeableObject row numbers }
-    ensures { result ≡ object_made row numbers }
-{
-    match row {
-        ObjectLine::List { .. } => ObjectLine::List {
-            locales: numbers.first as u8,
-            objects: numbers.second as u32,
-            width: numbers.third as u32,
-        },
-        ObjectLine::Bag { .. } => ObjectLine::Bag {
-            locales: numbers.first as u8,
-            segments: numbers.second as u32,
-            room: numbers.third as u32,
-        },
-        ObjectLine::Deque { .. } => ObjectLine::Deque {
-            locales: numbers.first as u8,
-            capacity: numbers.second as u32,
-        },
-    }
-}
-
-#[inline(always)]
-fn call_made(row: Call, numbers: Numbers) -> Call
-    ensures { result ≡ call_made row numbers }
-{
-    match row {
-        Call::List { call } => Call::List {
-            call: list_made(call, numbers),
-        },
-        Call::Bag { call, once } => Call::Bag {
-            call: bag_made(call, numbers),
-            once,
-        },
-        Call::Deque { call, once } => Call::Deque {
-            call: deque_made(call, numbers),
-            once,
-        },
-    }
-}
-
-#[inline(always)]
-fn list_made(row: ListCall, numbers: Numbers) -> ListCall
-    ensures { result ≡ list_made row numbers }
-{
-    let Numbers {
-        first: at,
-        second: value,
-        third: new,
-        ..
-    } = numbers;
-    match row {
-        ListCall::Read { .. } => ListCall::Read { at },
-        ListCall::Write { .. } => ListCall::Write { at, value },
-        ListCall::Swap { .. } => ListCall::Swap {
-            at,
-            old: value,
-            new,
-        },
-        ListCall::Add { .. } => ListCall::Add { at, value },
-        ListCall::Grow { .. } => ListCall::Grow { to: at },
-        ListCall::Len => ListCall::Len,
-    }
-}
-
-#[inline(always)]
-fn bag_made(row: BagCall, numbers: Numbers) -> BagCall
-    ensures { result ≡ bag_made row numbers }
-{
-    let item = numbers.first;
-    match row {
-        BagCall::Add { .. } => BagCall::Add { item },
-        BagCall::Remove => BagCall::Remove,
-    }
-}
-
-#[inline(always)]
-fn deque_made(row: DequeCall, numbers: Numbers) -> DequeCall
-    ensures { result ≡ deque_made row numbers }
-{
-    let item = numbers.first;
-    match row {
-        DequeCall::PushBack { .. } => DequeCall::PushBack { item },
-        DequeCall::PushFront { .. } => DequeCall::PushFront { item },
-        DequeCall::PopBack => DequeCall::PopBack,
-        DequeCall::PopFront => DequeCall::PopFront,
+        Row::Object(kind) => Line::Object(object_of(kind, numbers)),
+        Row::Callers(_) => Line::Callers(first as u32),
+        Row::Caller(_) => Line::Caller(first as u32),
+        Row::Call(kind, word, once) => Line::Call(call_of(kind, word, once, numbers)),
     }
 }

@@ -23,101 +23,80 @@ fn bad(line: u64) -> ScriptFault {
     ScriptFault::BadLine { line }
 }
 
+const DEQUE: &[u8] = b"pgas 1\nobject deque 1 1\ncallers 1\ncaller 0\n";
+
+const BAG: &[u8] = b"pgas 1\nobject bag 1 1 1\ncallers 1\ncaller 0\n";
+
+const LIST: &[u8] = b"pgas 1\nobject list 1 2 2\ncallers 1\ncaller 0\n";
+
 // Texts that are refused, and at which line: something is wrong of each line of the grammar.
-const REFUSED: [(&[u8], u64); 54] = [
-    (b"", 1),
-    (b"\n", 2),
-    (b"# c", 1),
-    (b"pgaz", 1),
-    (b"pgas", 1),
-    (b"pgas \n", 1),
-    (b"pgas 2", 1),
-    (b"pgas 01", 1),
-    (b"pgas 1 1", 1),
-    (b"pgas 1 #", 1),
-    (b"pgas 1\n", 2),
-    (b"pgas 1\npgas 1\n", 2),
-    (b"pgas 1\nobject\n", 2),
-    (b"pgas 1\nobject epochs", 2),
-    (b"pgas 1\nobject list 0\n", 2),
-    (b"pgas 1\nobject list 17", 2),
-    (b"pgas 1\nobject list 1 1\n", 2),
-    (b"pgas 1\nobject list 1 1048577", 2),
-    (b"pgas 1\nobject list 16 524289", 2),
-    (b"pgas 1\nobject list 16 524288 1", 2),
-    (b"pgas 1\nobject list 16 524288 3", 2),
-    (b"pgas 1\nobject list 1 2 1\n", 2),
-    (b"pgas 1\nobject list 1 2 4097", 2),
-    (b"pgas 1\nobject list 1 2 2 2", 2),
-    (b"pgas 1\nobject bag 1 65", 2),
-    (b"pgas 1\nobject bag 1 64 16777217", 2),
-    (b"pgas 1\nobject bag 1 64 0\n", 2),
-    (b"pgas 1\nobject deque 1 16777217", 2),
-    (b"pgas 1\nobject deque 1\n", 2),
-    (b"pgas 1\nobject deque 1 1\ncallers 0\n", 3),
-    (b"pgas 1\nobject deque 1 1\ncallers 65", 3),
-    (b"pgas 1\nobject list 1 2 2\ncallers 2", 3),
-    (b"pgas 1\nobject bag 1 1 1\ncallers 65", 3),
-    (b"pgas 1\nobject deque 1 1\ncallers 2\ncaller 2", 4),
-    (b"pgas 1\nobject deque 1 1\ncallers 2\ncaller 0\ntry", 5),
-    (b"pgas 1\nobject deque 1 1\ncallers 1\n", 4),
-    (b"pgas 1\nobject deque 1 1\ncallers 1\npop_back", 4),
-    (b"pgas 1\nobject deque 1 1\ncallers 1\ncaller 1", 4),
+const REFUSED: [(&[u8], &[u8], u64); 54] = [
+    (b"", b"", 1),
+    (b"", b"\n", 2),
+    (b"", b"# c", 1),
+    (b"", b"pgaz", 1),
+    (b"", b"pgas", 1),
+    (b"", b"pgas \n", 1),
+    (b"", b"pgas 2", 1),
+    (b"", b"pgas 01", 1),
+    (b"", b"pgas 1 1", 1),
+    (b"", b"pgas 1 #", 1),
+    (b"", b"pgas 1\n", 2),
+    (b"", b"pgas 1\npgas 1\n", 2),
+    (b"", b"pgas 1\nobject\n", 2),
+    (b"", b"pgas 1\nobject epochs", 2),
+    (b"", b"pgas 1\nobject list 0\n", 2),
+    (b"", b"pgas 1\nobject list 17", 2),
+    (b"", b"pgas 1\nobject list 1 1\n", 2),
+    (b"", b"pgas 1\nobject list 1 1048577", 2),
+    (b"", b"pgas 1\nobject list 16 524289", 2),
+    (b"", b"pgas 1\nobject list 16 524288 1", 2),
+    (b"", b"pgas 1\nobject list 16 524288 3", 2),
+    (b"", b"pgas 1\nobject list 1 2 1\n", 2),
+    (b"", b"pgas 1\nobject list 1 2 4097", 2),
+    (b"", b"pgas 1\nobject list 1 2 2 2", 2),
+    (b"", b"pgas 1\nobject bag 1 65", 2),
+    (b"", b"pgas 1\nobject bag 1 64 16777217", 2),
+    (b"", b"pgas 1\nobject bag 1 64 0\n", 2),
+    (b"", b"pgas 1\nobject deque 1 16777217", 2),
+    (b"", b"pgas 1\nobject deque 1\n", 2),
+    (b"", b"pgas 1\nobject deque 1 1\ncallers 0\n", 3),
+    (b"", b"pgas 1\nobject deque 1 1\ncallers 65", 3),
+    (b"", b"pgas 1\nobject list 1 2 2\ncallers 2", 3),
+    (b"", b"pgas 1\nobject bag 1 1 1\ncallers 65", 3),
+    (b"", b"pgas 1\nobject deque 1 1\ncallers 2\ncaller 2", 4),
     (
-        b"pgas 1\nobject deque 1 1\ncallers 1\ncaller 0\n# c\nadd",
-        6,
-    ),
-    (
-        b"pgas 1\nobject deque 1 1\ncallers 1\ncaller 0\npush_back\n",
+        b"",
+        b"pgas 1\nobject deque 1 1\ncallers 2\ncaller 0\ntry",
         5,
     ),
-    (
-        b"pgas 1\nobject deque 1 1\ncallers 1\ncaller 0\npush_back 18446744073709551616",
-        5,
-    ),
-    (
-        b"pgas 1\nobject deque 1 1\ncallers 1\ncaller 0\npush_back 1 2",
-        5,
-    ),
-    (
-        b"pgas 1\nobject deque 1 1\ncallers 1\ncaller 0\ntry round",
-        5,
-    ),
-    (b"pgas 1\nobject deque 1 1\ncallers 1\ncaller 0\ntry\n", 5),
-    (
-        b"pgas 1\nobject deque 1 1\ncallers 1\ncaller 0\nround\npop_back",
-        6,
-    ),
-    (
-        b"pgas 1\nobject deque 1 1\ncallers 1\ncaller 0\npush_back 1\nend x",
-        6,
-    ),
-    (
-        b"pgas 1\nobject bag 1 1 1\ncallers 1\ncaller 0\nremove 1",
-        5,
-    ),
-    (b"pgas 1\nobject bag 1 1 1\ncallers 1\ncaller 0\nlen", 5),
-    (b"pgas 1\nobject list 1 2 2\ncallers 1\ncaller 0\nread\n", 5),
-    (
-        b"pgas 1\nobject list 1 2 2\ncallers 1\ncaller 0\nwrite 1\n",
-        5,
-    ),
-    (
-        b"pgas 1\nobject list 1 2 2\ncallers 1\ncaller 0\nswap 1 2\n",
-        5,
-    ),
-    (
-        b"pgas 1\nobject list 1 2 2\ncallers 1\ncaller 0\nadd 1\n",
-        5,
-    ),
-    (b"pgas 1\nobject list 1 2 2\ncallers 1\ncaller 0\ngrow x", 5),
-    (b"pgas 1\nobject list 1 2 2\ncallers 1\ncaller 0\nlen 1", 5),
+    (b"", b"pgas 1\nobject deque 1 1\ncallers 1\n", 4),
+    (b"", b"pgas 1\nobject deque 1 1\ncallers 1\npop_back", 4),
+    (b"", b"pgas 1\nobject deque 1 1\ncallers 1\ncaller 1", 4),
+    (DEQUE, b"# c\nadd", 6),
+    (DEQUE, b"push_back\n", 5),
+    (DEQUE, b"push_back 18446744073709551616", 5),
+    (DEQUE, b"push_back 1 2", 5),
+    (DEQUE, b"try round", 5),
+    (DEQUE, b"try\n", 5),
+    (DEQUE, b"round\npop_back", 6),
+    (DEQUE, b"push_back 1\nend x", 6),
+    (BAG, b"remove 1", 5),
+    (BAG, b"len", 5),
+    (LIST, b"read\n", 5),
+    (LIST, b"write 1\n", 5),
+    (LIST, b"swap 1 2\n", 5),
+    (LIST, b"add 1\n", 5),
+    (LIST, b"grow x", 5),
+    (LIST, b"len 1", 5),
 ];
 
 #[test]
 fn refuses_lines(rt: HostRuntime) -> Result<(), Fail> {
-    for (text, line) in REFUSED {
-        assert_eq!(rt; read(rt.alloc(), text).err(), Some(bad(line)));
+    for (head, rest, line) in REFUSED {
+        let mut text = Vec::from_slice(rt.alloc(), head)?;
+        text.extend_from_slice(rest)?;
+        assert_eq!(rt; read(rt.alloc(), &text).err(), Some(bad(line)));
     }
     Ok(())
 }

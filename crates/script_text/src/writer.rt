@@ -1,13 +1,13 @@
 ghost use Rattle.std.specs.Prelude.{◌≡◌, ◌<◌, ◌++◌, ◌∷◌, [], OnOk, IfOk, string_bytes, map, decimal};
 ghost use Rattle.line_text.specs.Words.{spaced, words_line};
 ghost use Rattle.script_text.specs.Replies.{reply_text, caller_text, left_text, replies_text};
-ghost use Rattle.script_text.specs.Rows.{is_once, listed, words_of, written_line};
+ghost use Rattle.script_text.specs.Rows.{listed, words_of, written_line};
 ghost use Rattle.script_text.specs.ScriptText.{HasScript};
 ghost use Rattle.script_text.specs.Scripts.{written, written_head, plain_script, IsValid, written_calls, plain_round, written_callers, written_rounds};
 
 use crate::lines::Line;
 use crate::replies::{Left, Replies, Reply};
-use crate::rows::{Numbers, call_word, numbers_of, object_word};
+use crate::rows::{Numbers, line_parts};
 use crate::scripts::{Call, ObjectLine, Round, Script};
 use itoa::Buffer;
 use std::alloc::{AllocError, Global};
@@ -91,50 +91,26 @@ pub fn write_replies(alloc: Global, replies: &Replies) -> Result<String, AllocEr
 fn push_words(text: &mut String, line: Line) -> Result<(), AllocError>
     ensures { OnOk result (string_bytes text.new ≡ string_bytes text.old ++ words_line (words_of line)) }
 {
+    let (word, _) = line_parts(line);
     match line {
         Line::Pgas => text.push_str("pgas 1"),
-        Line::Object { object } => push_both(text, "object ", object_word(object)),
-        Line::Callers { .. } => text.push_str("callers"),
-        Line::Caller { .. } => text.push_str("caller"),
-        Line::Round => text.push_str("round"),
-        Line::Call { call } if is_once(call) => push_both(text, "try ", call_word(call)),
-        Line::Call { call } => text.push_str(call_word(call)),
-        Line::End => text.push_str("end"),
-    }
-}
-
-fn push_both(text: &mut String, one: &str, other: &str) -> Result<(), AllocError>
-    ensures { OnOk result (string_bytes text.new ≡ string_bytes text.old ++ (one.now ++ other.now)) }
-{
-    text.push_str(one)?;
-    text.push_str(other)
-}
-
-fn is_once(call: Call) -> bool
-    ensures { result ≡ is_once call }
-{
-    match call {
-        Call::List { .. } => false,
-        Call::Bag { once, .. } | Call::Deque { once, .. } => once,
+        Line::Object(_) => write!(text, "object {word}"),
+        Line::Call(Call::Bag { once: true, .. } | Call::Deque { once: true, .. }) => {
+            write!(text, "try {word}")
+        }
+        _ => text.push_str(word),
     }
 }
 
 /// Adds numbers, with a space before each.
 fn push_numbers(text: &mut String, numbers: Numbers) -> Result<(), AllocError>
-    requires { numbers.count < 4 }
     ensures { OnOk result (string_bytes text.new ≡ string_bytes text.old ++ spaced (map decimal (listed numbers))) }
 {
-    let Numbers {
-        count,
-        first,
-        second,
-        third,
-    } = numbers;
-    match count {
-        0 => Ok(()),
-        1 => write!(text, " {first}"),
-        2 => write!(text, " {first} {second}"),
-        _ => write!(text, " {first} {second} {third}"),
+    match numbers {
+        Numbers::Zero => Ok(()),
+        Numbers::One(first) => write!(text, " {first}"),
+        Numbers::Two(first, second) => write!(text, " {first} {second}"),
+        Numbers::Three(first, second, third) => write!(text, " {first} {second} {third}"),
     }
 }
 
@@ -143,7 +119,7 @@ fn push_whole(text: &mut String, line: Line) -> Result<(), AllocError>
     ensures { OnOk result (string_bytes text.new ≡ string_bytes text.old ++ written_line line) }
 {
     push_words(text, line)?;
-    push_numbers(text, numbers_of(line))?;
+    push_numbers(text, line_parts(line).1)?;
     text.push_str("\n")
 }
 
@@ -156,7 +132,7 @@ fn push_calls(text: &mut String, caller: usize, calls: &[Call]) -> Result<(), Al
     }
     writeln!(text, "caller {caller}")?;
     for call in calls {
-        push_whole(text, Line::Call { call: *call })?;
+        push_whole(text, Line::Call(*call))?;
     }
     Ok(())
 }
@@ -191,8 +167,8 @@ fn push_head(text: &mut String, object: ObjectLine, callers: u32) -> Result<(), 
     ensures { OnOk result (string_bytes text.new ≡ string_bytes text.old ++ written_head object callers) }
 {
     push_whole(text, Line::Pgas)?;
-    push_whole(text, Line::Object { object })?;
-    push_whole(text, Line::Callers { callers })
+    push_whole(text, Line::Object(object))?;
+    push_whole(text, Line::Callers(callers))
 }
 
 /// The text of the script: its lines in order, with single spaces and no leading zeros, in each round a
