@@ -4,6 +4,7 @@ pub mod Known
 pub mod TokenSteps
 pub mod DeferralSteps
 pub mod ReturnSteps
+pub mod ScanSteps
 pub mod PassClauses
 pub mod ObjectSteps
 pub mod Returned

@@ -18,6 +18,7 @@ mod opening;
 mod passes;
 mod phases;
 mod plain_cells;
+mod reclaims;
 mod returns;
 mod tokens;
 

@@ -1,0 +1,167 @@
+-- What the steps of a scan come to.
+use Rattle.std.proofs.Common.{◌≡◌, ◌⊎◌, ◌<◌, ◌≤◌, ℕ, ◌+◌, ◌*◌, ◌/◌, ◌%◌, Bool, true, false, ltb, if◌then◌else◌, List, [], ◌∷◌, ◌++◌, length, refl, ap, sym, ◌∙◌, subst, arith, inl, inr, ⊎_elim, Some, None, length-append}
+use Rattle.std.proofs.Math.Nat.{div-add-mod}
+use Rattle.std.proofs.lemmas.Bool.{cases_Bool, ltb-true}
+use Rattle.std.proofs.lemmas.Nat.{div-mul-add, mod-mul-add}
+use Rattle.pass_book.specs.declared.entries.Entry.{Entry}
+use Rattle.pass_book.specs.declared.entries.Look.{Look}
+use Rattle.pgas_base.specs.declared.shapes.Shape.{Shape}
+use Rattle.epoch_laws.specs.declared.tokens.Token.{Token}
+use Rattle.epoch_laws.specs.declared.steps.Kind.TheVariants.{ScanToken}
+use Rattle.epoch_laws.specs.ReclaimSteps.{passes, token_after, scan_token}
+use Rattle.epoch_laws.specs.Seats.{Seat, Scanning, Stopped}
+use Rattle.epoch_laws.specs.Steps.{move}
+use Rattle.epoch_laws.specs.Words.{WordName, token}
+use Rattle.epoch_laws.proofs.Updates.{number_here}
+use Rattle.pass_table.proofs.Lists.{in_order_more}
+use Rattle.epoch_table.specs.declared.events.Happens.{Happens}
+use Rattle.epoch_table.specs.declared.parts.Plan.{Plan}
+use Rattle.epoch_table.specs.declared.parts.Part.{Part}
+use Rattle.epoch_table.specs.Clients.{ClientTerms}
+use Rattle.epoch_table.specs.Facts.{Facts}
+use Rattle.epoch_table.specs.Kinds.{MayMake, Makes}
+use Rattle.epoch_table.specs.Knowledge.{Row, tells}
+use Rattle.epoch_manager.specs.declared.reclaims.Stop.{Stop}
+use Rattle.epoch_manager.specs.Reclaiming.{nth_token, ArePassed, IsStopped, IsScanning, scanned, stopped, Scans}
+use Rattle.epoch_manager.specs.Tokens.{token_read}
+use Rattle.epoch_manager.proofs.TokenSteps.{Seated, Goes, made_of, then_goes}
+
+next_token : (tokens k : ℕ) → 1 ≤ tokens → token_after tokens (nth_token tokens k) ≡ nth_token tokens (k + 1)
+unfolding token_after
+next_token tokens k some =
+    let a = k / tokens in
+    let b = k % tokens in
+    let whole : tokens * a + b ≡ k = div-add-mod k tokens in
+    ⊎_elim
+    (λ on.
+    let low : b + 1 < tokens = ltb-true (b + 1) tokens on in
+    let is : a * tokens + (b + 1) ≡ k + 1 = grind arith in
+    rw on (λ i. record { locale = (sym (div-mul-add a tokens (b + 1) low) ∙ ap (λ n. n / tokens) is) i; number = (sym (mod-mul-add a tokens (b + 1) low) ∙ ap (λ n. n % tokens) is) i }))
+    (λ off.
+    let last : b + 1 ≡ tokens = last_one b tokens off (below k tokens some) in
+    let is : (a + 1) * tokens + 0 ≡ k + 1 = grind arith in
+    rw off (λ i. record { locale = (sym (div-mul-add (a + 1) tokens 0 some) ∙ ap (λ n. n / tokens) is) i; number = (sym (mod-mul-add (a + 1) tokens 0 some) ∙ ap (λ n. n % tokens) is) i }))
+    (cases_Bool (ltb (b + 1) tokens))
+  where
+    below : (k n : ℕ) → 1 ≤ n → k % n < n
+    below k n some = omega arith
+
+    last_one : (b n : ℕ) → ltb (b + 1) n ≡ false → b < n → b + 1 ≡ n
+    last_one b n off low = grind arith
+
+module _ (shape : Shape) (seats c : ℕ) (seat : Seat) (facts : Facts) where
+  passed_told : (found : ℕ) → passes seat.reclaim.epoch found ≡ true
+      → tells shape seats c seat facts ScanToken found ≡ record { seat = record seat { reclaim = record seat.reclaim { scan = token_after shape.tokens seat.reclaim.scan } }; items = [] }
+  unfolding move scan_token
+  passed_told found is =
+      let of : Bool → Seat = λ b. if b then record seat { reclaim = record seat.reclaim { scan = token_after shape.tokens seat.reclaim.scan } } else record seat { phase = Stopped } in
+      ap (λ (s : Seat). record { seat = s; items = [] }) (number_here (λ d. seat) c (of (passes seat.reclaim.epoch found)) ∙ ap of is)
+
+  stopped_told : (found : ℕ) → passes seat.reclaim.epoch found ≡ false → tells shape seats c seat facts ScanToken found ≡ record { seat = record seat { phase = Stopped }; items = [] }
+  unfolding move scan_token
+  stopped_told found is =
+      let of : Bool → Seat = λ b. if b then record seat { reclaim = record seat.reclaim { scan = token_after shape.tokens seat.reclaim.scan } } else record seat { phase = Stopped } in
+      ap (λ (s : Seat). record { seat = s; items = [] }) (number_here (λ d. seat) c (of (passes seat.reclaim.epoch found)) ∙ ap of is)
+
+  scan_row : c < seats → seat.phase ≡ Scanning → seat.reclaim.scan.locale < shape.locales → Row shape seats c seat facts ScanToken
+  unfolding move scan_token
+  scan_row below is low = ((below, ((is, low), tt)), tt)
+
+module _ {C View' Call Reply State' : Type 0} (K : ClientTerms C View' Call Reply State') (opens : State' → Type 0) (step : State' → Call → Reply → State' → Type 0) (plan : Plan C) where
+  -- so many tokens were passed
+  pub record HasPassed (epoch k : ℕ) (m n : Seated K opens step plan) : Type 0 where
+    pub words : List (Look WordName)
+    pub passed : ArePassed plan.shape.tokens epoch k words
+    pub part : n.0.part ≡ scanned plan.shape.tokens k m.0.part
+    pub number : n.0.number ≡ m.0.number
+    pub so : ((n ≡ m) × (words ≡ [])) ⊎ Goes K opens step plan m n words [] (scanned plan.shape.tokens k m.0.part)
+
+  module _ (epoch : ℕ) (m : Seated K opens step plan) (scans : IsScanning plan.shape.tokens epoch m.0.part) where
+    pub none_passed : HasPassed epoch 0 m m
+    none_passed = record {
+      words = [];
+      passed = record { count = refl; each = λ k look none. absurd cc };
+      part = ap (λ (t : Token). record m.0.part { seat = record m.0.part.seat { reclaim = record m.0.part.seat.reclaim { scan = t } } }) scans.first;
+      number = refl;
+      so = inl (refl, refl);
+    }
+
+    module _ (k : ℕ) (j : Seated K opens step plan) (has : HasPassed epoch k m j) where
+      pub scans_here : j.0.part.seat.reclaim.scan ≡ nth_token plan.shape.tokens k
+      scans_here = ap (λ (p : Part View'). p.seat.reclaim.scan) has.part
+
+      pub may_scan : m.0.number < plan.callers → k / plan.shape.tokens < plan.shape.locales → MayMake K plan j.0.number ScanToken j.0.part
+      may_scan below low =
+          let number = has.number in record {
+            row = scan_row plan.shape plan.callers j.0.number j.0.part.seat j.0.part.facts (omega arith) (ap (λ (p : Part View'). p.seat.phase) has.part ∙ scans.phase)
+                (subst (λ (t : Token). t.locale < plan.shape.locales) (sym scans_here) low);
+            made = tt;
+            allowed = tt;
+          }
+
+      same_epoch : j.0.part.seat.reclaim.epoch ≡ epoch
+      same_epoch = ap (λ (p : Part View'). p.seat.reclaim.epoch) has.part ∙ scans.read
+
+      -- the tokens so far, and then one more
+      after_passed : (n : Seated K opens step plan) (more : List (Look WordName)) (part : Part View') → Goes K opens step plan j n more [] part → Goes K opens step plan m n (has.words ++ more) [] part
+      after_passed n more part next =
+          ⊎_elim
+          (λ t. subst (λ (l : List (Look WordName)). Goes K opens step plan m n (l ++ more) [] part) (sym t.1) (subst (λ (x : Seated K opens step plan). Goes K opens step plan x n more [] part) t.0 next))
+          (λ t. then_goes K opens step plan m j n has.words more [] (scanned plan.shape.tokens k m.0.part) part t next)
+          has.so
+
+      module _ (found : ℕ) (n : Seated K opens step plan) (makes : Makes K opens step plan ScanToken j found n) where
+        pub one_passed : 1 ≤ plan.shape.tokens → passes epoch found ≡ true → HasPassed epoch (k + 1) m n
+        one_passed some is =
+            let tokens = plan.shape.tokens in
+            let look : Look WordName = token_read (nth_token tokens k) found in
+            let made = made_of K opens step plan ScanToken j n found _ (passed_told plan.shape plan.callers j.0.number j.0.part.seat j.0.part.facts found (subst (λ e. passes e found ≡ true) (sym same_epoch) is)) makes in
+            let here : Goes K opens step plan j n (look ∷ []) [] (record m.0.part { seat = record m.0.part.seat { reclaim = record m.0.part.seat.reclaim { scan = token_after tokens (nth_token tokens k) } } }) =
+            subst
+            (λ (p : Part View').
+            Goes K opens step plan j n (token_read p.seat.reclaim.scan found ∷ []) []
+            (record p { seat = record p.seat { reclaim = record p.seat.reclaim { scan = token_after tokens p.seat.reclaim.scan } } }))
+            has.part made in
+            let next : Goes K opens step plan j n (look ∷ []) [] (scanned tokens (k + 1) m.0.part) =
+            subst (λ (t : Token). Goes K opens step plan j n (look ∷ []) [] (record m.0.part { seat = record m.0.part.seat { reclaim = record m.0.part.seat.reclaim { scan = t } } })) (next_token tokens k some) here in
+            record {
+              words = has.words ++ look ∷ [];
+              passed = record {
+                count = length-append has.words (look ∷ []) ∙ ap (λ i. i + 1) has.passed.count;
+                each = in_order_more (λ i (look : Look WordName). (look.name ≡ token (nth_token tokens i)) × (passes epoch look.word ≡ true)) has.words _ look k refl has.passed.count has.passed.each (refl, is);
+              };
+              part = next.1;
+              number = next.0.same.number ∙ has.number;
+              so = inr (after_passed n (look ∷ []) (scanned tokens (k + 1) m.0.part) next);
+            }
+
+        pub stops_it : (stop : Stop) → stop.word ≡ found → stop.token ≡ nth_token plan.shape.tokens k → k < plan.shape.locales * plan.shape.tokens → passes epoch found ≡ false → Scans K opens step plan epoch m n (Some stop)
+        stops_it stop word is low stops =
+            let tokens = plan.shape.tokens in
+            let look : Look WordName = token_read (nth_token tokens k) found in
+            let made = made_of K opens step plan ScanToken j n found _ (stopped_told plan.shape plan.callers j.0.number j.0.part.seat j.0.part.facts found (subst (λ e. passes e found ≡ false) (sym same_epoch) stops)) makes in
+            let next : Goes K opens step plan j n (look ∷ []) [] (stopped (scanned tokens k m.0.part)) =
+            subst (λ (p : Part View'). Goes K opens step plan j n (token_read p.seat.reclaim.scan found ∷ []) [] (stopped p)) has.part made in (
+              k,
+              low,
+              is,
+              (
+                has.words ++ look ∷ [],
+                record {
+                  before = has.words;
+                  passed = has.passed;
+                  read = ap (λ w. has.words ++ token_read (nth_token tokens k) w ∷ []) (sym word);
+                  stops = subst (λ w. passes epoch w ≡ false) (sym word) stops;
+                },
+                after_passed n (look ∷ []) (stopped (scanned tokens k m.0.part)) next,
+              ),
+            )
+
+    pub all_passed : (n : Seated K opens step plan) (k : ℕ) → HasPassed epoch k m n → k ≡ plan.shape.locales * plan.shape.tokens → 1 ≤ plan.shape.locales * plan.shape.tokens → Scans K opens step plan epoch m n None
+    all_passed n k has all some =
+        let many = has.passed.count in (
+          has.words,
+          subst (λ i. ArePassed plan.shape.tokens epoch i has.words) all has.passed,
+          subst (λ i. Goes K opens step plan m n has.words [] (scanned plan.shape.tokens i m.0.part)) all
+              (⊎_elim (λ t. let none : length has.words ≡ 0 = ap length t.1 in absurd (omega arith)) (λ t. t) has.so),
+        )

@@ -1,0 +1,56 @@
+//! How the epoch is advanced, and what may be released is released.
+ghost use Rattle.std.specs.Prelude.{◌≡◌, ◌*◌, ◌<◌};
+ghost use Rattle.epoch_laws.specs.ReclaimSteps.{last_epoch, passes};
+ghost use Rattle.pass_table.specs.Passes.{IsSeatOf, view_of, me_of};
+ghost use Rattle.epoch_manager.specs.Managers.{plan_of, shape_of, callers_of};
+ghost use Rattle.epoch_manager.specs.Reclaiming.{IsScanning, Scans};
+
+use crate::managers::Manager;
+use epoch_laws::Token;
+use epoch_table::{Client, TableSeat};
+
+// A token that stops a scan, and its word.
+struct Stop {
+    token: Token,
+    word: u64,
+}
+
+// The word doesn't stop a reclaim of this epoch.
+fn lets_pass(epoch: u64, word: u64) -> bool
+    requires { epoch < last_epoch }
+    ensures { result ≡ passes epoch word }
+{
+    word == 0 || word == 1 || word == epoch + 2
+}
+
+impl<C: Client> Manager<C> {
+    // How many tokens all locales have.
+    fn many_tokens(&self) -> u32
+        ensures { result ≡ (shape_of self.now).locales * (shape_of self.now).tokens }
+    {
+        u32::from(self.shape.locales) * self.shape.tokens
+    }
+
+    // Loads the word of each token, by rising locale and then rising number, up to the first that stops a reclaim of this epoch.
+    fn scan(&self, seat: &mut TableSeat<C>, epoch: u64) -> Option<Stop>
+        requires seat { IsSeatOf self.now.words.table seat.old }
+        requires below { (view_of seat.old).number < callers_of self.now }
+        requires epoch { epoch < last_epoch }
+        requires scanning { IsScanning (shape_of self.now).tokens epoch (view_of seat.old).part }
+        ensures seat { IsSeatOf self.now.words.table seat.new }
+        ensures scans { Scans C.terms C.Object.opens C.Object.step (plan_of self.now) epoch (me_of seat.old) (me_of seat.new) result }
+    {
+        for number in 0..self.many_tokens() {
+            let token = Token {
+                locale: (number / self.shape.tokens) as u8,
+                number: number % self.shape.tokens,
+            };
+            let word = self.words.scan_token(seat, token);
+            let passes = lets_pass(epoch, word);
+            if !passes {
+                return Some(Stop { token, word });
+            }
+        }
+        None
+    }
+}
