@@ -35,3 +35,4 @@ mod ReleaseCounts
 pub mod Onward
 pub mod ChainWords
 pub mod Frames
+pub mod ReleasedOnce

@@ -31,3 +31,4 @@ pub mod Owners
 pub mod Accounts
 pub mod Frames
 pub mod Laws
+pub mod Released

@@ -9,7 +9,6 @@ use Rattle.epoch_laws.specs.declared.steps.Kind.TheVariants.{DeferLook, DeferSwa
 use Rattle.epoch_laws.specs.DeferralSteps.{defer_look, defer_swap, defer_link}
 use Rattle.epoch_laws.specs.Places.{place_of}
 use Rattle.epoch_laws.specs.Seats.{Seat, Pinned, DeferLooked, DeferSwapped}
-use Rattle.epoch_laws.specs.States.{IsPlace}
 use Rattle.epoch_laws.specs.Steps.{move}
 use Rattle.epoch_laws.specs.Words.{WordName, local_epoch, list}
 use Rattle.epoch_laws.proofs.Updates.{number_here}
@@ -48,9 +47,9 @@ module _ (shape : Shape) (seats c : ℕ) (seat : Seat) (facts : Facts) where
     link_row is = ((below, (is, tt)), tt)
 
 module _ {C View' Call Reply State' : Type 0} (K : ClientTerms C View' Call Reply State') (opens : State' → Type 0) (step : State' → Call → Reply → State' → Type 0) (plan : Plan C) where
-  pub may_look : (m : Seated K opens step plan) (q : Pointer) → m.0.number < plan.callers → IsPlace plan.shape (place_of q) → m.0.part.seat.phase ≡ Pinned → K.may m.0.part.client (Defers q)
+  pub may_look : (m : Seated K opens step plan) (q : Pointer) → m.0.number < plan.callers → m.0.part.seat.phase ≡ Pinned → K.may m.0.part.client (Defers q)
       → MayMake K plan m.0.number (DeferLook q) m.0.part
-  may_look m q below inside is may = record { row = (below, inside, is); made = tt; allowed = may }
+  may_look m q below is may = record { row = (below, is); made = tt; allowed = may }
 
   module _ (q : Pointer) (m k : Seated K opens step plan) (tag : ℕ) (looks : Makes K opens step plan (DeferLook q) m tag k) where
     abbrev pub PartLooked : Part View'
@@ -102,6 +101,6 @@ module _ {C View' Call Reply State' : Type 0} (K : ClientTerms C View' Call Repl
             let second = as_among K opens step plan k j (swap ∷ []) [] PartSwapped swapped_so in
             let third = as_among K opens step plan j n [] [] (part_deferred K q tag old m.0.part) linked_so in
             let two = then_among K opens step plan m k j (look ∷ []) (swap ∷ []) entries [] PartLooked PartSwapped first second in (
-              looks.0,
+              looks.0.0,
               (old, then_among K opens step plan m j n (deferral_words l tag old) [] entries [] PartSwapped (part_deferred K q tag old m.0.part) two third),
             )

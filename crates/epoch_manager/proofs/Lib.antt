@@ -8,5 +8,6 @@ pub mod ScanSteps
 pub mod PassClauses
 pub mod ObjectSteps
 pub mod Returned
+pub mod SpotClauses
 pub mod Openings
 pub mod Closings

@@ -11,3 +11,4 @@ pub mod Returning
 pub mod Reclaiming
 pub mod Opened
 pub mod Closed
+pub mod SpotCalls

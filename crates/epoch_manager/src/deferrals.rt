@@ -2,9 +2,7 @@
 ghost use Rattle.std.specs.Prelude.{◌≡◌, ◌<◌};
 ghost use mathlib.Core.List.{IsPrefix};
 ghost use Rattle.epoch_laws.specs.declared.tokens.Token.{Token};
-ghost use Rattle.epoch_laws.specs.Places.{place_of};
 ghost use Rattle.epoch_laws.specs.Seats.{Pinned as IsPinned};
-ghost use Rattle.epoch_laws.specs.States.{IsPlace};
 ghost use Rattle.pass_table.specs.Passes.{IsSeatOf, view_of, me_of};
 ghost use Rattle.epoch_table.specs.Clients.{Defers};
 ghost use Rattle.epoch_manager.specs.Managers.{plan_of, opening_of, shape_of, callers_of, pass_opening, phase_of, page, owned_by, held_by, knows, IsSamePass, change};
@@ -23,7 +21,6 @@ impl<C: Client> Manager<C> {
         requires below { (view_of seat.old).number < callers_of self.now }
         requires pinned { (view_of seat.old).part.seat.phase ≡ IsPinned }
         requires locale { (locale ≡ (view_of seat.old).part.seat.token.locale) × (locale < (shape_of self.now).locales) }
-        requires inside { IsPlace (shape_of self.now) (place_of ptr) }
         requires may { C.terms.may (view_of seat.old).part.client (Defers ptr) }
         ensures seat { IsSeatOf self.now.words.table seat.new }
         ensures defers { DefersSeat C.terms C.Object.opens C.Object.step (plan_of self.now) ptr (me_of seat.old) result (me_of seat.new) }
@@ -41,7 +38,6 @@ impl<C: Client> Manager<C> {
     pub fn defer_delete(&self, pass: &mut Pass<C>, ptr: Ptr)
         requires opening { pass_opening pass.old ≡ opening_of self.now }
         requires phase { (token : Token) × (phase_of pass.old ≡ Phase.Pinned token) }
-        requires inside { IsPlace (shape_of self.now) (place_of ptr) }
         requires may { C.terms.may (knows pass.old) (Defers ptr) }
         ensures pass { IsSamePass pass.old pass.new }
         ensures owned { owned_by pass.new ≡ owned_by pass.old }

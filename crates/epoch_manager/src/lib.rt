@@ -2,9 +2,9 @@
 //! of `epoch_table`.
 //!
 //! There are the opening with its refusals, the calls on tokens (register, unregister, pin, unpin), those on an object
-//! that the caller owns (fill, show, give_back) or has cut out (defer_delete), notes and the close, for any client; and
-//! `Cells`, a client whose links are a row of cells. The calls by which objects are taken, held and reclaimed are not
-//! there yet.
+//! that the caller owns (fill, show, give_back) or has cut out (defer_delete), steps on the client's words and on rows,
+//! reads, notes and the close, for any client; and `Cells`, a client whose links are a row of cells. The calls by which
+//! objects are taken, held and reclaimed are not there yet.
 #![tactic(auto)]
 
 mod cells;
@@ -18,8 +18,11 @@ mod opening;
 mod passes;
 mod phases;
 mod plain_cells;
+mod reads;
 mod reclaims;
 mod returns;
+mod returns;
+mod spots;
 mod tokens;
 
 pub use cells::{Cells, CellsView};

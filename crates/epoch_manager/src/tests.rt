@@ -1,11 +1,13 @@
-ghost use Rattle.std.specs.Prelude.{◌≡◌, length, All, IfSome};
+ghost use Rattle.std.specs.Prelude.{◌≡◌, ◌<◌, length, All, IfSome};
 ghost use Rattle.epoch_manager.specs.Opened.{AreOfOpening, IsIdlePass};
+ghost use Rattle.pgas_base.specs.declared.spots.Spot.TheVariants.{Own as OwnSpot};
 ghost use Rattle.epoch_manager.specs.Cells.{cells_terms};
-ghost use Rattle.epoch_manager.specs.Managers.{opening_of, callers_of, pass_opening, phase_of, shape_of};
+ghost use Rattle.epoch_manager.specs.Managers.{plan_of, opening_of, callers_of, pass_opening, phase_of, shape_of};
 
 use super::*;
 use epoch_table::Client;
-use pgas_base::{Shape, ShapeFault, Start};
+use pass_book::Object;
+use pgas_base::{Shape, ShapeFault, Spot, Start};
 
 fn shape(tokens: u32) -> Shape
     ensures { result ≡ record { locales = 2; tokens = tokens; objects = 3; width = 2 } }
@@ -150,4 +152,118 @@ fn a_closed_manager_gives_its_words_and_rows(rt: HostRuntime) {
         Err(_) => false,
     };
     assert!(rt; zeros);
+}
+
+// An object that has no calls.
+struct Silence;
+
+impl Object for Silence {
+    type Call = ();
+
+    type Reply = ();
+
+    type State = ();
+
+    ghost opens = { λ s. Unit {0} };
+
+    ghost step = { λ s c r t. ⊥ };
+}
+
+// A client of four words, which allows each step on them, and has no object.
+#[derive(Drop)]
+struct Plain;
+
+impl Client for Plain {
+    ghost use Rattle.std.specs.Prelude.{false, None};
+    ghost use Rattle.std.proofs.lemmas.Bool.{false≢true};
+    ghost use Rattle.pgas_base.specs.declared.spots.Spot.TheVariants.{Own as OwnSpot, Row as RowSpot};
+    ghost use Rattle.pass_book.specs.Histories.{IsLegal};
+    ghost use Rattle.epoch_table.specs.Clients.{Steps, changed, with_spot};
+
+    type Object = Silence;
+
+    type View = ();
+
+    ghost terms = { record {
+      own = λ c. 4;
+      start = λ c. tt;
+      first = tt;
+      unpinned = λ v. v;
+      may_take = λ v l. Unit {0};
+      may_reclaim = λ v l. Unit {0};
+      gives_back = Unit {0};
+      may = λ v a. elim a [ Steps spot change ↦ elim spot [ OwnSpot word ↦ Unit {0} | RowSpot q at ↦ ⊥ ] | _ ↦ ⊥ ];
+      after = λ v a n. tt;
+      enters = λ v a n. None;
+      is_own_link = λ w. false;
+      is_row_link = λ w. false;
+      holds = λ c s x. Unit {0};
+    } };
+
+    fn words(&self) -> u32 {
+        4
+    }
+
+    ghost object_opens = { λ c. tt };
+
+    ghost opens = { λ c s. tt };
+
+    ghost links = { λ c s x h. (λ w low is. absurd (false≢true is), λ p n at row standing which here low is. absurd (false≢true is)) };
+
+    ghost kept_by_takes = { λ c s x d q row h may none. tt };
+
+    ghost kept_by_shows = { λ c s x d q row h may. absurd may };
+
+    ghost kept_by_returns = { λ c s x d q row h may own at. tt };
+
+    ghost kept_by_deferrals = { λ c s x d q h may. absurd may };
+
+    ghost kept_by_frees = { λ c s x d q row h may at. (tt, tt) };
+
+    ghost kept_by_fills = { λ c s x d q at value row h may. absurd may };
+
+    ghost kept_by_holds = { λ c s x d spot found h is at. (tt, λ legal. legal) };
+
+    ghost kept_by_steps = { λ c s x d spot change found h may at.
+        elim spot as (λ a. Unit {0} × (IsLegal (λ s. Unit {0}) (λ s c r t. ⊥) (tt {0}) x.entries → IsLegal (λ s. Unit {0}) (λ s c r t. ⊥) (tt {0}) (with_spot x a (changed change found)).entries))
+        [ OwnSpot word ↦ (tt, λ legal. legal) | RowSpot q at ↦ (tt, λ legal. legal) ] };
+
+    ghost kept_by_unpins = { λ c s x d h. tt };
+}
+
+fn third_word() -> Spot
+    ensures { result ≡ OwnSpot 3 }
+{
+    Spot::Own { word: 3 }
+}
+
+// One step of each kind on a word, and what it answers.
+fn steps_on_a_word(manager: &Manager<Plain>, pass: &mut Pass<Plain>) -> [u64; 6]
+    requires pass { pass_opening pass.old ≡ opening_of manager.now }
+    requires words { (plan_of manager.now).own ≡ 4 }
+{
+    manager.put(pass, third_word(), 5);
+    let looked = manager.look(pass, third_word());
+    let switched = manager.switch(pass, third_word(), 7);
+    let kept = manager.trade(pass, third_word(), 5, 9);
+    let traded = manager.trade(pass, third_word(), 7, u64::MAX);
+    let raised = manager.raise(pass, third_word(), 2);
+    let last = manager.look(pass, third_word());
+    [looked, switched, kept, traded, raised, last]
+}
+
+#[test]
+fn steps_answer_what_stood_in_the_word(rt: HostRuntime) {
+    let (manager, mut passes) = Manager::open(
+        rt.alloc(),
+        shape(1),
+        Start::usual(),
+        1,
+        Plain,
+    ).expect(&rt, "memory");
+    let Some(mut pass) = passes.pop() else {
+        return;
+    };
+    let answers = steps_on_a_word(&manager, &mut pass);
+    assert_eq!(rt; answers, [5, 5, 7, 7, u64::MAX, 1]);
 }

@@ -28,6 +28,11 @@ use Rattle.epoch_table.proofs.MachineSteps.{now}
 use Rattle.epoch_table.proofs.Entering.{items_stay, entries_grow, own_stay, happened_own, legal_entered}
 use Rattle.epoch_table.proofs.SpotWords.{named_stay}
 
+-- what holds of each holds still where one is another of which it holds
+pub of_put : {A : Type 0} (all : ℕ → A) (c : ℕ) (new : A) (P : ℕ → A → Type 0) → ((d : ℕ) → P d (all d)) → P c new → (d : ℕ) → P d (put all c new d)
+of_put all c new P each one d =
+    ⊎_elim (λ h. subst (P d) (sym (put_here all c new d h.1)) (subst (λ e. P e new) (sym h.1) one)) (λ h. subst (P d) (sym (put_else all c new d h.1)) (each d)) (eqb_tells d c)
+
 module _ {Self View' Call Reply State' : Type 0} (K : ClientTerms Self View' Call Reply State') (opens : State' → Type 0) (step : State' → Call → Reply → State' → Type 0)
     (plan : Plan Self) (m : Moment (Unit {0}) (Happens Call Reply) (Unit {0}) (Part View')) (rule : ManagerRule K plan m) (c number : ℕ) (view : View') (o : Option (Call × Reply)) where
   -- the state that the words show
@@ -60,8 +65,7 @@ module _ {Self View' Call Reply State' : Type 0} (K : ClientTerms Self View' Cal
 
   -- what holds of the part of each pass that an action leaves as it was holds still
   of_parts : (P : ℕ → Part View' → Type 0) → ((d : ℕ) → P d (m.parts d)) → P c part_then → (d : ℕ) → P d (parts_then d)
-  of_parts P all one d =
-      ⊎_elim (λ h. subst (P d) (sym (put_here m.parts c part_then d h.1)) (subst (λ e. P e part_then) (sym h.1) one)) (λ h. subst (P d) (sym (put_else m.parts c part_then d h.1)) (all d)) (eqb_tells d c)
+  of_parts = of_put m.parts c part_then
 
   won_then : ◌≡◌ {A = ℕ → Bool} (λ d. (parts_then d).won) (λ d. (m.parts d).won)
   won_then = fun_ext (of_parts (λ d p. p.won ≡ (m.parts d).won) (λ d. refl) refl)

@@ -37,7 +37,7 @@ use Rattle.epoch_table.proofs.Deeds.{does}
 use Rattle.epoch_table.proofs.Knowledge.{header_read, head_found}
 
 -- the count in the word of a pointer
-count_back : (l i n : ℕ) → n < 4294967296 → count_in (l * 72057594037927936 + i * 4294967296 + n) ≡ n
+pub count_back : (l i n : ℕ) → n < 4294967296 → count_in (l * 72057594037927936 + i * 4294967296 + n) ≡ n
 count_back l i n low = omega arith
 
 -- the count of a header whose word stays

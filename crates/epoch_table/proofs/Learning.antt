@@ -9,9 +9,10 @@ use Rattle.pool_core.specs.declared.headers.State.TheVariants.{Shown}
 use Rattle.epoch_laws.specs.declared.steps.Kind.{Kind}
 use Rattle.epoch_laws.specs.declared.steps.Kind.TheVariants.{Register, Unregister, PinLook, PinSet, Unpin, TakeLook, TakeTry, Show, Hold, Touch, Return, DeferLook, DeferSwap, DeferLink, ElectLocal, ElectGlobal, EpochLook, ScanToken, Advance, Spread, Collect, Walk, Release, Leave, StackLook, StackNext, StackPop, StackPut, HandLink, HomeSwap, HomeLink, HomeTake, HomeWalk}
 use Rattle.epoch_laws.specs.ChainWords.{IsChainWord}
-use Rattle.epoch_laws.specs.Places.{Place, place_in, pending, is_among}
+use Rattle.epoch_laws.specs.Places.{Place, place_of, place_in, pending, is_among}
 use Rattle.epoch_laws.specs.Seats.{Seat, Advanced}
-use Rattle.epoch_laws.specs.States.{State}
+use Rattle.epoch_laws.specs.States.{State, IsPlace}
+use Rattle.epoch_laws.specs.DeferralSteps.{defer_look}
 use Rattle.epoch_laws.specs.Holds.{AreHeld}
 use Rattle.epoch_laws.specs.Locations.{Kind as LocationKind, InStack, InTaken, InHand, IsOwned, InRest, Location, at_}
 use Rattle.epoch_laws.specs.Sound.{Fits, Map, IsSound, state_of}
@@ -101,6 +102,7 @@ module _ (s : State) (m : Map) (sound : IsSound s m) (held : AreHeld s) (c : ℕ
 
   abbrev pub Newly : Kind → Type 0
   Newly StackPop = same_head (s.words.free_head (s.seat c).stack.locale) (s.seat c).stack.head ≡ true → IsNew (s.seat c) (looked_top (s.seat c).stack)
+  Newly (DeferLook q) = IsPlace s.shape (place_of q)
   Newly Walk = IsNew (s.seat c) (place_in (s.seat c).reclaim.chain)
   Newly HomeWalk = IsNew (s.seat c) (place_in (s.seat c).homing.chain)
   Newly _ = Unit {0}
@@ -112,8 +114,9 @@ module _ (s : State) (m : Map) (sound : IsSound s m) (held : AreHeld s) (c : ℕ
       new_at _ at is (λ e. absurd (cc e)) (λ e. absurd (cc e)) (not_shown _ at is (λ e. absurd (cc e)))
 
   pub newly : IsShape s.shape → (k : Kind) → AllMet (move s c k).needs → Newly k
-  unfolding move walk home_walk
+  unfolding move walk home_walk defer_look
   newly is_shape StackPop h = popped_newly h
+  newly is_shape (DeferLook q) h = h.1.0
   newly is_shape Walk h =
       new_at _ (at_ InRest c) (walked_from s m sound c h.1.0.0 h.1.0.1) (λ e. absurd (cc e)) (λ e. absurd (cc e)) (advanced_holds h.1.0.0 _)
   newly is_shape HomeWalk h =
@@ -135,7 +138,7 @@ module _ (s : State) (m : Map) (sound : IsSound s m) (is_shape : IsShape s.shape
   learns (Hold q) within new succeeds finds = tt
   learns (Touch q) within new succeeds finds = tt
   learns (Return q) within new succeeds finds = tt
-  learns (DeferLook q) within new succeeds finds = subst (λ n. n ≤ 4611686018427387904) finds (low.epochs (s.seat c).token.locale)
+  learns (DeferLook q) within new succeeds finds = (subst (λ n. n ≤ 4611686018427387904) finds (low.epochs (s.seat c).token.locale), new)
   learns DeferSwap within new succeeds finds = tt
   learns DeferLink within new succeeds finds = tt
   learns ElectLocal within new succeeds finds = tt

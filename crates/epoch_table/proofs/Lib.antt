@@ -8,7 +8,9 @@ pub mod Writing
 pub mod Returns
 pub mod Epochs
 pub mod Scenes
+pub mod ReleasedBy
 pub mod MachineSteps
+pub mod Insides
 pub mod Permitted
 pub mod Lows
 pub mod Learning
@@ -19,6 +21,8 @@ pub mod Entering
 pub mod SpotWords
 pub mod ClientSteps
 pub mod SpotSteps
+pub mod HeldRule
+pub mod HoldSteps
 pub mod RowSteps
 pub mod Heads
 pub mod ClosedWords

@@ -15,19 +15,19 @@ use Rattle.pgas_base.specs.declared.starts.Start.{Start}
 use Rattle.pgas_base.specs.Shapes.{IsShape}
 use Rattle.epoch_laws.specs.declared.events.Item.{Item}
 use Rattle.epoch_laws.specs.declared.steps.Kind.{Kind}
-use Rattle.epoch_laws.specs.declared.steps.Kind.TheVariants.{Unpin, TakeTry, Hold, Touch, DeferLook, ElectLocal, StackLook}
+use Rattle.epoch_laws.specs.declared.steps.Kind.TheVariants.{Unpin, TakeTry, Hold, Touch, DeferLook, ElectLocal, Release, StackLook}
 use Rattle.epoch_laws.specs.declared.steps.Step.{Step}
 use Rattle.epoch_laws.specs.Places.{Place, place_of, with_number}
 use Rattle.epoch_laws.specs.TakeSteps.{look_count}
 use Rattle.epoch_laws.specs.Words.{Words, WordName, global_epoch, global_election, local_epoch, local_election, list, free_stack, home_chain, token, header_of, next_of, word_at}
 use Rattle.epoch_laws.specs.Seats.{Seat, is_reclaiming}
-use Rattle.epoch_laws.specs.States.{State, opening}
-use Rattle.epoch_laws.specs.Needs.{AllMet, Outcome}
+use Rattle.epoch_laws.specs.States.{State, IsPlace, opening}
+use Rattle.epoch_laws.specs.Needs.{AllMet, Outcome, event}
 use Rattle.epoch_laws.specs.TokenSteps.{unpin}
 use Rattle.epoch_laws.specs.Steps.{move}
 use Rattle.epoch_laws.specs.Runs.{IsRun, state_after, items_of}
 use Rattle.epoch_laws.specs.Histories.{IsLegalHistory}
-use Rattle.epoch_laws.specs.Items.{happenings, epoch_of, IsExactRelease}
+use Rattle.epoch_laws.specs.Items.{happenings, epoch_of, IsExactRelease, releaser}
 use Rattle.epoch_laws.specs.Accounts.{account, account_of}
 use Rattle.pool_core.specs.Headers.{header_word}
 use Rattle.epoch_laws.specs.Laws.{IsReached}
@@ -46,9 +46,10 @@ use Rattle.epoch_table.specs.Layout.{OfClient, client_place, named_place, place,
 use Rattle.epoch_table.specs.Deeds.{Deed, Elsewhere, Loads, Stores, Swaps, Exchanges, deed, Does, number_after}
 use Rattle.epoch_table.specs.Facts.{AreFacts, facts_after}
 use Rattle.epoch_table.specs.Heads.{weight, winners, givens, won_after, Causes}
+use Rattle.epoch_table.specs.Released.{ReleasesOnce}
 use Rattle.epoch_table.specs.Events.{HasNoReturn, AreOf, items_in, entries_in, PastOpens, PastSteps}
 use Rattle.epoch_table.specs.Knowledge.{Told, told, tells, Finds, IsKnown, Row}
-use Rattle.epoch_table.specs.Clients.{ClientTerms, Scene, AreLawful, thing_of, deferrals_in}
+use Rattle.epoch_table.specs.Clients.{ClientTerms, Scene, AreLawful, AreInside, thing_of, deferrals_in}
 use Rattle.epoch_table.specs.Rule.{AreShown, AreSmall, AreLow, Shows, row_word, scene_of, ManagerRule, manager_terms}
 use Rattle.epoch_table.specs.Kinds.{looks_of, IsOn, entries_of_items, client_after, IsQuiet, IsMade, Succeeds, Allows, part_after, MayMake, Learns}
 use Rattle.epoch_table.proofs.Deeds.{does}
@@ -56,6 +57,11 @@ use Rattle.epoch_table.proofs.Epochs.{local_or_less}
 use Rattle.epoch_table.proofs.Knowledge.{head_found, row_met, told_so}
 use Rattle.epoch_table.proofs.Heads.{winners_one, winners_but, givens_then, pays, wins_once}
 use Rattle.epoch_table.proofs.Facts.{own_facts, other_facts}
+use Rattle.epoch_table.proofs.ReleasedBy.{same_released, release_tells, advanced_is, releaser_still}
+use Rattle.epoch_laws.proofs.ReleasedOnce.{released_once}
+use Rattle.epoch_laws.specs.Locations.{IsDistinct}
+use Rattle.epoch_laws.specs.declared.events.EpochEvent.TheVariants.{Freed}
+use Rattle.epoch_table.proofs.Insides.{inside_after, opening_inside, thing_state}
 use Rattle.epoch_table.proofs.Learning.{learns, newly, within_row}
 use Rattle.epoch_table.proofs.Scenes.{scene, scene_after, live_is, defer_needs, take_hand, take_wins, asks_of, changes_kept, reclaims_kept, quiet_kept}
 use Rattle.epoch_table.proofs.Lows.{low_kept}
@@ -99,10 +105,16 @@ module _ {Self View' Call Reply State' : Type 0} (K : ClientTerms Self View' Cal
   abbrev pub now : State
   now = state_after first_state rule.steps
 
-  shape_is : now.shape ≡ plan.shape
+  pub shape_is : now.shape ≡ plan.shape
   shape_is = shape_after first_state rule.steps ∙ opening_shape plan.shape plan.start plan.callers
 
-  seats_are : now.seats ≡ plan.callers
+  -- what the client speaks of is inside the shape
+  pub things_inside : AreInside plan.shape (λ p. thing_of (now.words.header p) (now.tag p) (row_word plan.shape m.words p))
+  things_inside p x e =
+      let all = inside_after first_state rule.steps rule.run (opening_inside plan.shape plan.start plan.callers) in
+      subst (λ (shape : Shape). IsPlace shape p) shape_is (all p (thing_state (now.words.header p).state (now.words.header p).count (now.tag p) (row_word plan.shape m.words p) x e))
+
+  pub seats_are : now.seats ≡ plan.callers
   seats_are = seats_after first_state rule.steps ∙ opening_seats plan.shape plan.start plan.callers
 
   pub reached : IsReached plan.start.epoch plan.start.count now (items_of first_state rule.steps)
@@ -166,7 +178,7 @@ module _ {Self View' Call Reply State' : Type 0} (K : ClientTerms Self View' Cal
         row_of (DeferLook q) made allowed h =
             let lawful = laws.deferrals plan.client plan.shape scene_now c q rule.client allowed in
             let live = live_is (now.words.header (place_of q)) (now.tag (place_of q)) (rows (place_of q)) lawful.0 q lawful.1 in
-            defer_needs now c q h live.0 live.1
+            defer_needs now c q h (subst (λ x. IsPlace x (place_of q)) (sym shape_is) (things_inside (place_of q) _ lawful.1)) live.0 live.1
         row_of (Hold q) made allowed h = absurd made
         row_of (Touch q) made allowed h = absurd made
         row_of k made allowed h = row_met now c k (m.parts c).facts tt facts_now h
@@ -311,6 +323,23 @@ module _ {Self View' Call Reply State' : Type 0} (K : ClientTerms Self View' Cal
             let more = givens_then_now below in
             omega (arith, before', head, others, more)
         caused _ finds = tt
+
+    -- no object is released twice between two advances
+    pub releases_so : ReleasesOnce c kind history_after
+    releases_so = releases kind row refl
+      where
+        releases : (k : Kind) → AllMet (move now c k).needs → kind ≡ k → ReleasesOnce c k history_after
+        releases (Release q) h is =
+            let tells = release_tells now c q h in
+            let says_is : says.items ≡ event c (Freed q) = sym (ap (λ t. t.items) told_is) ∙ subst (λ k. (move now c k).outcome.items ≡ event c (Freed q)) (sym is) tells.1 in
+            let all = items_then m.history c says.items in
+            let legal : IsLegalHistory plan.start.count (happenings (items_in history_after)) = subst (λ l. IsLegalHistory plan.start.count (happenings l)) (items_are ∙ sym all) (events_are_legal plan.shape plan.start plan.callers steps_after rule.is_shape rule.count run_after) in
+            let exact : IsExactRelease plan.start.epoch plan.start.count (items_in history_after) = subst (λ l. IsExactRelease plan.start.epoch plan.start.count l) (items_are ∙ sym all) (release_is_exact plan.shape plan.start plan.callers steps_after rule.is_shape rule.count run_after) in
+            let last : releaser (items_in m.history) ≡ Some c = ap releaser rule.listed ∙ (reached.told.epochs.releases c (advanced_is (now.seat c) tells.0)).0 in
+            let still : releaser (items_in history_after) ≡ Some c = ap releaser (all ∙ ap (λ l. items_in m.history ++ l) says_is) ∙ releaser_still (items_in m.history) c q last in
+            let once = released_once plan.start.epoch plan.start.count (items_in history_after) legal exact in
+            subst IsDistinct (sym (same_released plan.start.epoch plan.start.count c history_after exact (own_then m.history c says.items rule.own (subst (AreOf c) (ap (λ t. t.items) told_is) (items_own now rule.small c kind))) still)) once.distinct
+        releases _ h is = tt
 
     -- an object is given back only where the client allows that
     returns_then : (K.gives_back → ⊥) → HasNoReturn (items_in history_after)

@@ -14,6 +14,7 @@ use Rattle.epoch_table.specs.Layout.{named_place, table_words, IsNamed}
 use Rattle.epoch_table.specs.Deeds.{Deed, Elsewhere, Loads, Stores, Swaps, Exchanges, deed, number_after}
 use Rattle.epoch_table.specs.Events.{PastOpens, PastSteps}
 use Rattle.epoch_table.specs.Heads.{Causes}
+use Rattle.epoch_table.specs.Released.{ReleasesOnce}
 use Rattle.epoch_table.specs.Knowledge.{Finds}
 use Rattle.epoch_table.specs.Clients.{ClientTerms, AreLawful, KeptByTakes, KeptByShows, KeptByReturns, KeptByDeferrals, KeptByFrees, KeptByUnpins}
 use Rattle.epoch_table.specs.Rule.{AreShown, manager_terms}
@@ -22,7 +23,7 @@ use Rattle.pass_table.specs.Steps.{Steps}
 use Rattle.pass_table.proofs.Going.{goes_to}
 use Rattle.epoch_table.proofs.Places.{named_within}
 use Rattle.epoch_table.proofs.Writing.{found_so}
-use Rattle.epoch_table.proofs.MachineSteps.{now, learns_so, causes_so, acts_so}
+use Rattle.epoch_table.proofs.MachineSteps.{now, learns_so, causes_so, releases_so, acts_so}
 
 -- what a client owes, from its laws one by one
 pub lawful_of : {Self View Call Reply State : Type 0} {K : ClientTerms Self View Call Reply State} → KeptByTakes K → KeptByShows K → KeptByReturns K → KeptByDeferrals K → KeptByFrees K → KeptByUnpins K → AreLawful K
@@ -48,7 +49,7 @@ module _ {Self View' Call Reply State' : Type 0} (K : ClientTerms Self View' Cal
         _,
         holding,
         acts_so K opens step plan m rule laws c kind may' (said found) finds' below name is_named on' legal me.1,
-        (learns_so K opens step plan m rule laws c kind may' (said found) finds', (m.history, refl), causes_so K opens step plan m rule laws c kind may' (said found) finds' below),
+        (learns_so K opens step plan m rule laws c kind may' (said found) finds', (m.history, refl), causes_so K opens step plan m rule laws c kind may' (said found) finds' below, releases_so K opens step plan m rule laws c kind may' (said found) finds'),
       ) in
       subst G has all
 
@@ -160,4 +161,5 @@ module _ {Self View' Call Reply State' : Type 0} (K : ClientTerms Self View' Cal
     goes_to (manager_terms K) (PastOpens opens) (PastSteps step) plan (λ found e. TellsKind K plan m.0.number kind m.0.part m.1 found e) m found n steps
         (looks_of (deed m.0.part.seat kind) found) (entries_made K plan m.0.number kind m.0.part found) (part_after K plan m.0.number kind m.0.part found) m.1 steps.told.1,
     subst (Causes plan.start.stack plan.callers kind m.0.part.won found) (sym (seen_is kind m found n steps)) steps.told.2,
+    subst (ReleasesOnce m.0.number kind) (sym (seen_is kind m found n steps)) steps.told.3,
   )

@@ -1,6 +1,7 @@
 -- What a quiet step leaves as it is: each object's header, tag and owner. And only a won local election begins a reclaim.
 use Rattle.std.proofs.Common.{◌∙◌, List, [], ◌∷◌, ◌≡◌, ◌==◌, ◌⊎◌, ℕ, Bool, true, false, if◌then◌else◌, [], refl, ap, subst, inl, inr, ⊎_elim}
 use Rattle.std.proofs.lemmas.Bool.{cases_Bool, false≢true}
+use Rattle.pgas_base.specs.Pointers.{Pointer}
 use Rattle.pool_core.specs.declared.headers.Header.{Header}
 use Rattle.epoch_laws.specs.declared.steps.Kind.{Kind}
 use Rattle.epoch_laws.specs.declared.steps.Kind.TheVariants.{Register, Unregister, PinLook, PinSet, Unpin, TakeLook, TakeTry, Show, Hold, Touch, Return, DeferLook, DeferSwap, DeferLink, ElectLocal, ElectGlobal, EpochLook, ScanToken, Advance, Spread, Collect, Walk, Release, Leave, StackLook, StackNext, StackPop, StackPut, HandLink, HomeSwap, HomeLink, HomeTake, HomeWalk}
@@ -68,6 +69,11 @@ untouched s c (HomeSwap top tail) quiet = record { header = refl; tag = refl; ow
 untouched s c HomeLink quiet = record { header = refl; tag = refl; owned = same_owned s.seat c _ refl; none = refl }
 untouched s c (HomeTake l) quiet = record { header = refl; tag = refl; owned = same_owned s.seat c _ refl; none = refl }
 untouched s c HomeWalk quiet = ⊎_elim (λ e. rw e (record { header = refl; tag = refl; owned = λ d. refl; none = refl })) (λ e. rw e (record { header = refl; tag = refl; owned = same_owned s.seat c _ refl; none = refl })) (cases_Bool (s.words.next (place_in ((s.seat c).homing.chain)) == pending))
+
+-- so does a hold
+pub held_untouched : (s : State) (c : ℕ) (q : Pointer) → Untouched s (move s c (Hold q)).outcome
+unfolding move hold deferrals_in
+held_untouched s c q = record { header = refl; tag = refl; owned = same_owned s.seat c _ refl; none = refl }
 
 -- the seat itself, where one is changed
 own_seat : (P : Seat → Type 0) (seat : ℕ → Seat) (c : ℕ) (new : Seat) → P (with_number seat c new c) → P new

@@ -30,7 +30,7 @@ use Rattle.epoch_table.specs.RowSteps.{MayRead, MayFill, FindsOwn, FindsIn, Tell
 use Rattle.epoch_table.proofs.Places.{row_within}
 use Rattle.epoch_table.proofs.Writing.{in_row}
 use Rattle.epoch_table.proofs.Scenes.{owned_fits}
-use Rattle.epoch_table.proofs.MachineSteps.{now, reached}
+use Rattle.epoch_table.proofs.MachineSteps.{now, reached, things_inside}
 use Rattle.epoch_table.proofs.ClientSteps.{scene_before, scene_written, acts_at}
 use Rattle.epoch_table.proofs.SpotWords.{words_stay, things_after}
 use Rattle.epoch_table.proofs.SpotSteps.{place_in_row, row_is_at}
@@ -93,6 +93,7 @@ module _ {Self View' Call Reply State' : Type 0} (K : ClientTerms Self View' Cal
     deferrals = refl;
     knows = refl;
     owns = ap (λ (y : Seat). y.owned) (sym (rule.seats c));
+    inside = things_inside K opens step plan m rule;
     row = row;
     here = own_here among;
     says = found_here;
@@ -108,6 +109,7 @@ module _ {Self View' Call Reply State' : Type 0} (K : ClientTerms Self View' Cal
       entries = refl;
       deferrals = refl;
       knows = refl;
+      inside = things_inside K opens step plan m rule;
       at = row_is_at K opens step plan m rule c q at may.low among may.row;
     };
     owned = finds_own;

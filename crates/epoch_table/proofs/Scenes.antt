@@ -132,10 +132,10 @@ unfolding is_free
 is_free_of n = eq-eqb n n refl
 
 -- a deferral needs that its object is shown and not deferred
-pub defer_needs : (s : State) (c : ℕ) (q : Pointer) → (c < s.seats) × IsPlace s.shape (place_of q) × ((s.seat c).phase ≡ Pinned) → s.words.header (place_of q) ≡ record { count = q.count; state = Shown } → s.tag (place_of q) ≡ None
+pub defer_needs : (s : State) (c : ℕ) (q : Pointer) → (c < s.seats) × ((s.seat c).phase ≡ Pinned) → IsPlace s.shape (place_of q) → s.words.header (place_of q) ≡ record { count = q.count; state = Shown } → s.tag (place_of q) ≡ None
     → AllMet (move s c (DeferLook q)).needs
 unfolding move defer_look
-defer_needs s c q h shown none = (h.0, (h.1, (h.2, (shown, (none, tt)))))
+defer_needs s c q h inside shown none = (h.0, (inside, (h.1, (shown, (none, tt)))))
 
 -- the object of a take is in the hand
 pub take_hand : (s : State) (c : ℕ) (p : Place) → AllMet (move s c (TakeTry p.locale p.index)).needs → is_among p (s.seat c).hand ≡ true

@@ -29,7 +29,7 @@ use Rattle.epoch_table.specs.Rule.{row_word, scene_of, ManagerRule, manager_term
 use Rattle.epoch_table.specs.Spots.{happened, FindsAt, acted, entries_acted, TellsAt, Reaches, MayStep, PermittedAt, StepsAt}
 use Rattle.epoch_table.proofs.Places.{row_within}
 use Rattle.epoch_table.proofs.Writing.{in_row, row_stays}
-use Rattle.epoch_table.proofs.MachineSteps.{now, reached}
+use Rattle.epoch_table.proofs.MachineSteps.{now, reached, things_inside}
 use Rattle.epoch_table.proofs.ClientSteps.{scene_before, scene_written, acts_at}
 use Rattle.epoch_table.proofs.SpotWords.{shown_thing, words_after, words_stay, things_after}
 
@@ -41,12 +41,9 @@ module _ {Self View' : Type 0} (plan : Plan Self) (c : ℕ) where
 
 module _ {Self View' Call Reply State' : Type 0} (K : ClientTerms Self View' Call Reply State') (plan : Plan Self) (c : ℕ) where
   -- a spot that it reaches has a word in the table
-  pub site_so : (spot : Spot) (change : Change) (part : Part View') → MayStep K plan c spot change part → IsSite plan.shape (site_of spot)
-  site_so spot change part may = by spot may.reaches
-    where
-      by : (a : Spot) → Reaches K plan c a part → IsSite plan.shape (site_of a)
-      by (OwnSpot word) low = tt
-      by (RowSpot q n) has = (place_in_row plan c q part has.2, has.0)
+  pub site_so : (spot : Spot) (part : Part View') → Reaches K plan c spot part → IsSite plan.shape (site_of spot)
+  site_so (OwnSpot word) part low = tt
+  site_so (RowSpot q n) part has = (place_in_row plan c q part has.2, has.0)
 
 -- the place in the one shape is that in another that is equal
 pub spot_place : (shape other : Shape) (spot : Spot) (n : ℕ) → other ≡ shape → n ≡ place shape (site_of spot) → n ≡ place other (site_of spot)
@@ -73,6 +70,12 @@ module _ {Self View' Call Reply State' : Type 0} (K : ClientTerms Self View' Cal
       let object = shown_thing (s.tag (place_of q)) row q (s.words.header (place_of q)) (held_shown c q among touches) in
       let inside = place_in_row plan c q (m.parts c) touches in
       (low, (object.0, row, object.1, object.2, rw (in_row plan.shape (place_of q) n inside low) refl))
+
+  -- what stands at a spot that a pass reaches, as the client sees it
+  pub stands_at : (c : ℕ) (spot : Spot) → Reaches K plan c spot (m.parts c)
+      → IsAt K plan.client plan.shape (scene_of plan.shape m.words (now K opens step plan m rule) m.history (λ d. (m.parts d).client)) spot (slice_index m.words (place plan.shape (site_of spot)))
+  stands_at c (OwnSpot word) low = (subst (λ n. word < n) rule.owns low, refl)
+  stands_at c (RowSpot q n) has = row_is_at c q n has.0 has.1 has.2
 
 module _ {Self View' Call Reply State' : Type 0} (K : ClientTerms Self View' Call Reply State') (opens : State' → Type 0) (step : State' → Call → Reply → State' → Type 0) (kept : KeptBySteps K opens step)
     (plan : Plan Self) (m : Moment (Unit {0}) (Happens Call Reply) (Unit {0}) (Part View')) (rule : ManagerRule K plan m) (c : ℕ) (spot : Spot) (change : Change) (may : MayStep K plan c spot change (m.parts c)) where
@@ -104,15 +107,10 @@ module _ {Self View' Call Reply State' : Type 0} (K : ClientTerms Self View' Cal
   x = scene_before K opens step plan m rule c number view o
 
   is_site : IsSite plan.shape (site_of spot)
-  is_site = site_so K plan c spot change (m.parts c) may
+  is_site = site_so K plan c spot (m.parts c) may.reaches
 
-  -- what stands at the spot, as the client sees it
   is_at : IsAt K plan.client plan.shape x spot found
-  is_at = stands spot may.reaches
-    where
-      stands : (a : Spot) → Reaches K plan c a (m.parts c) → IsAt K plan.client plan.shape x a (slice_index m.words (place plan.shape (site_of a)))
-      stands (OwnSpot word) low = (subst (λ n. word < n) rule.owns low, refl)
-      stands (RowSpot q n) has = row_is_at K opens step plan m rule c q n has.0 has.1 has.2
+  is_at = stands_at K opens step plan m rule c spot may.reaches
 
   -- to the client the number is written at the spot
   scene_is : known_after K (with_spot x spot number) c action told ≡ scene_written K opens step plan m rule c number view o spot
@@ -144,7 +142,7 @@ module _ {Self View' Call Reply State' : Type 0} (K : ClientTerms Self View' Cal
   keeps = subst (Keeps K opens step plan.client plan.shape x) scene_is (kept plan.client plan.shape x c spot change found rule.client may.allowed is_at)
 
   pub finds : FindsAt K plan c m.history (m.parts c) spot change told
-  finds = record { found = found; tells = refl; scene = x; holds = rule.client; entries = refl; deferrals = refl; knows = refl; at = is_at }
+  finds = record { found = found; tells = refl; scene = x; holds = rule.client; entries = refl; deferrals = refl; knows = refl; inside = things_inside K opens step plan m rule; at = is_at }
 
   pub steps_so : IsLegal (PastOpens opens) (PastSteps step) ((manager_terms K).start plan) m.history → (carried : List (ℕ × Unit {0}))
       → Acts (manager_terms K) (PastOpens opens) (PastSteps step) plan m at number c carried (seeing m.history [] (happened c o) (acted K plan c (m.parts c) action told) carried) holding
@@ -152,9 +150,9 @@ module _ {Self View' Call Reply State' : Type 0} (K : ClientTerms Self View' Cal
 
 module _ {Self View' Call Reply State' : Type 0} (K : ClientTerms Self View' Call Reply State') where
   -- and it stands in the table
-  pub spot_within : (shape : Shape) (plan : Plan Self) (spot : Spot) (c : ℕ) (change : Change) (part : Part View') (n : ℕ) → plan.shape ≡ shape → MayStep K plan c spot change part
+  pub spot_within : (shape : Shape) (plan : Plan Self) (spot : Spot) (c : ℕ) (part : Part View') (n : ℕ) → plan.shape ≡ shape → Reaches K plan c spot part
       → n ≡ place shape (site_of spot) → n < table_words shape plan.own
-  spot_within shape plan spot c change part n same may is = by spot may.reaches (site_so K plan c spot change part may) (spot_place shape plan.shape spot n same is)
+  spot_within shape plan spot c part n same reaches is = by spot reaches (site_so K plan c spot part reaches) (spot_place shape plan.shape spot n same is)
     where
       by : (a : Spot) → Reaches K plan c a part → IsSite plan.shape (site_of a) → n ≡ place plan.shape (site_of a) → n < table_words shape plan.own
       by (OwnSpot word) low site at = subst (λ (x : Shape). n < table_words x plan.own) same (omega (arith, low, at))

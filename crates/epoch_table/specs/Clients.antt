@@ -12,6 +12,7 @@ use Rattle.epoch_laws.specs.declared.events.Item.TheVariants.{Event}
 use Rattle.pgas_base.specs.declared.spots.Spot.{Spot}
 use Rattle.pgas_base.specs.declared.spots.Spot.TheVariants.{Own as OwnSpot, Row as RowSpot}
 use Rattle.epoch_laws.specs.Places.{Place, place_of, is_among, with_number, with_place, without}
+use Rattle.epoch_laws.specs.States.{IsPlace}
 
 -- how an object stands that isn't free: one pass's own, shown, or shown and deferred
 pub data Standing : Type 0 where
@@ -80,6 +81,10 @@ thing_of header tag row =
       | Shown ↦ Some (record { count = header.count; standing = (elim tag [ None ↦ Live | Some d ↦ Retired ]); row = row })
       | Worn ↦ None
     ]
+
+-- each object that is owned or shown is one of the shape
+abbrev pub AreInside : Shape → (Place → Option Thing) → Type 0
+AreInside shape things = (p : Place) (x : Thing) → things p ≡ Some x → IsPlace shape p
 
 -- the number that a step leaves where it finds this one
 abbrev pub changed : Change → ℕ → ℕ

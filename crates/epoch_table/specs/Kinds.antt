@@ -8,7 +8,7 @@ use Rattle.epoch_laws.specs.declared.events.Item.{Item}
 use Rattle.epoch_laws.specs.declared.steps.Kind.{Kind}
 use Rattle.epoch_laws.specs.declared.steps.Kind.TheVariants.{PinLook, Unpin, TakeLook, TakeTry, Show, Hold, Touch, Return, DeferLook, ElectLocal, EpochLook, Collect, Walk, Release, StackLook, StackPop, StackPut, HomeTake, HomeWalk}
 use Rattle.epoch_laws.specs.ChainWords.{IsChainWord}
-use Rattle.epoch_laws.specs.Places.{Place, place_in, pending}
+use Rattle.epoch_laws.specs.Places.{Place, place_of, place_in, pending}
 use Rattle.epoch_laws.specs.Words.{WordName}
 use Rattle.pass_table.specs.declared.views.View.{View}
 use Rattle.pass_table.specs.Terms.{Effect, SeesSo, Permits}
@@ -24,11 +24,12 @@ use Rattle.pool_core.specs.FreeWords.{free_index}
 use Rattle.epoch_table.specs.Events.{PastOpens, PastSteps}
 use Rattle.epoch_table.specs.Facts.{Facts, Keeps, IsNew, count_of, facts_after}
 use Rattle.epoch_table.specs.Heads.{won_after, Causes}
+use Rattle.epoch_table.specs.Released.{ReleasesOnce}
 use Rattle.epoch_table.specs.Numbers.{header_in, head_in}
 use Rattle.epoch_table.specs.Knowledge.{tells, Row}
 use Rattle.epoch_table.specs.Clients.{ClientTerms, Takes, Shows, Returns, Defers, Frees}
 use Rattle.epoch_laws.specs.Seats.{Seat}
-use Rattle.epoch_laws.specs.States.{State}
+use Rattle.epoch_laws.specs.States.{State, IsPlace}
 use Rattle.epoch_laws.specs.StackSteps.{looked_top, same_head}
 use Rattle.epoch_laws.specs.TakeSteps.{look_count}
 use Rattle.pool_core.specs.Headers.{header_word}
@@ -100,14 +101,14 @@ IsMade (Touch pointer) = ⊥
 IsMade _ = Unit {0}
 
 -- What a step learns of the number that it finds, beside what that is: the header of an object that the seat has says the count that is known of it, a take wins, an
--- epoch isn't above the last, the object on top of a stack is one of its locale's, and a chain leads to objects of the shape. An object that a step takes from a
--- stack or a chain is new to the seat
+-- epoch isn't above the last, a deferred object is one of the shape, the object on top of a stack is one of its locale's, and a chain leads to objects of the shape.
+-- An object that a step takes from a stack or a chain is new to the seat
 abbrev pub Learns : Shape → Seat → Facts → Kind → ℕ → Type 0
 Learns shape seat facts (TakeLook locale index) found =
     let p : Place = record { locale = locale; index = index } in (n : ℕ) → Keeps seat p → count_of facts p ≡ Some n → (header_in found).count ≡ n
 Learns shape seat facts (TakeTry locale index) found = found ≡ header_word (look_count seat.free_look) Free
 Learns shape seat facts PinLook found = found ≤ last_epoch
-Learns shape seat facts (DeferLook pointer) found = found ≤ last_epoch
+Learns shape seat facts (DeferLook pointer) found = (found ≤ last_epoch) × IsPlace shape (place_of pointer)
 Learns shape seat facts EpochLook found = found ≤ last_epoch
 Learns shape seat facts (StackLook locale) found = free_index found ≤ shape.objects
 Learns shape seat facts Collect found = IsChainWord shape found
@@ -167,6 +168,7 @@ module _ {Self View' Call Reply State' : Type 0} (K : ClientTerms Self View' Cal
         Learns plan.shape part.seat part.facts kind found
         × SeesSo e (looks_of (deed part.seat kind) found) (entries_made kind part found) (part_after kind part found) carried
         × Causes plan.start.stack plan.callers kind part.won found (e.history ++ e.entries)
+        × ReleasesOnce caller kind (e.history ++ e.entries)
 
     -- its row is met, and the client allows it
     pub record MayMake (kind : Kind) (part : Part View') : Type 0 where
@@ -189,3 +191,4 @@ module _ {Self View' Call Reply State' : Type 0} (K : ClientTerms Self View' Cal
         × GoesTo (manager_terms K) (PastOpens opens) (PastSteps step) plan m n (looks_of (deed part.seat kind) found) (entries_made plan m.0.number kind part found)
         (part_after plan m.0.number kind part found) m.1
         × Causes plan.start.stack plan.callers kind part.won found n.0.seen
+        × ReleasesOnce m.0.number kind n.0.seen

@@ -9,7 +9,7 @@ use Rattle.epoch_laws.specs.declared.steps.Kind.TheVariants.{Show, Hold, Touch, 
 use Rattle.epoch_laws.specs.Places.{Place, place_of, is_among}
 use Rattle.epoch_laws.specs.Words.{Words, word_at}
 use Rattle.epoch_laws.specs.Seats.{Seat, Pinned}
-use Rattle.epoch_laws.specs.States.{State, IsPlace}
+use Rattle.epoch_laws.specs.States.{State}
 use Rattle.epoch_laws.specs.Needs.{AllMet, Outcome}
 use Rattle.epoch_laws.specs.Steps.{move}
 use Rattle.epoch_table.specs.Deeds.{Deed, Elsewhere, Loads, Stores, Swaps, Exchanges}
@@ -99,7 +99,7 @@ IsKnown seat facts (StackPut top tail) = AreAllKnown facts seat.hand
 IsKnown seat facts (HomeSwap top tail) = AreAllKnown facts seat.hand
 IsKnown seat facts _ = Unit {0}
 
--- Its row is met, where its seat is this and knows this. That an object that is to be deferred is shown and not deferred is the client's to know
+-- Its row is met, where its seat is this and knows this. That an object that is to be deferred is one of the shape, shown and not deferred is the client's to know
 abbrev pub Row : Shape → ℕ → ℕ → Seat → Facts → Kind → Type 0
-Row shape seats c seat facts (DeferLook pointer) = (c < seats) × IsPlace shape (place_of pointer) × (seat.phase ≡ Pinned)
+Row shape seats c seat facts (DeferLook pointer) = (c < seats) × (seat.phase ≡ Pinned)
 Row shape seats c seat facts kind = AllMet (move (known shape seats seat facts kind 0) c kind).needs × IsKnown seat facts kind

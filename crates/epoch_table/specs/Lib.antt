@@ -5,8 +5,10 @@ pub mod Facts
 pub mod Knowledge
 pub mod Events
 pub mod Heads
+pub mod Released
 pub mod Clients
 pub mod Rule
 pub mod Kinds
 pub mod Spots
 pub mod RowSteps
+pub mod Holds

@@ -14,7 +14,7 @@ use Rattle.epoch_table.specs.declared.events.Happens.{Happens}
 use Rattle.epoch_table.specs.declared.parts.Plan.{Plan}
 use Rattle.epoch_table.specs.declared.parts.Part.{Part}
 use Rattle.epoch_table.specs.Events.{PastOpens, PastSteps, items_in, entries_in}
-use Rattle.epoch_table.specs.Clients.{ClientTerms, Scene, Fills, Looks, Owned, thing, deferrals_in}
+use Rattle.epoch_table.specs.Clients.{ClientTerms, Scene, Fills, Looks, Owned, thing, AreInside, deferrals_in}
 use Rattle.epoch_table.specs.Knowledge.{Row}
 use Rattle.epoch_table.specs.Rule.{manager_terms}
 use Rattle.epoch_table.specs.Spots.{FindsAt}
@@ -40,6 +40,7 @@ module _ {Self View' Call Reply State' : Type 0} (K : ClientTerms Self View' Cal
     pub deferrals : scene.deferrals ≡ deferrals_in (items_in h)
     pub knows : scene.views caller ≡ part.client
     pub owns : scene.owned caller ≡ part.seat.owned
+    pub inside : AreInside plan.shape scene.things
     pub row : ℕ → ℕ
     pub here : scene.things (place_of q) ≡ thing q Owned row
     pub says : row at ≡ found

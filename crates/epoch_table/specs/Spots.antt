@@ -17,7 +17,7 @@ use Rattle.epoch_table.specs.declared.events.Happens.TheVariants.{Enters}
 use Rattle.epoch_table.specs.declared.parts.Plan.{Plan}
 use Rattle.epoch_table.specs.declared.parts.Part.{Part}
 use Rattle.epoch_table.specs.Events.{PastOpens, PastSteps, items_in, entries_in}
-use Rattle.epoch_table.specs.Clients.{ClientTerms, Scene, Action, Steps, Change, answered, IsAt, deferrals_in}
+use Rattle.epoch_table.specs.Clients.{ClientTerms, Scene, Action, Steps, Change, answered, IsAt, AreInside, deferrals_in}
 use Rattle.epoch_table.specs.Knowledge.{Row}
 use Rattle.epoch_table.specs.Rule.{manager_terms}
 
@@ -38,6 +38,7 @@ module _ {Self View' Call Reply State' : Type 0} (K : ClientTerms Self View' Cal
     pub entries : scene.entries ≡ entries_in h
     pub deferrals : scene.deferrals ≡ deferrals_in (items_in h)
     pub knows : scene.views caller ≡ part.client
+    pub inside : AreInside plan.shape scene.things
     pub at : IsAt K plan.client plan.shape scene spot found
 
   -- the part after an action that finds this number, and what that enters

@@ -28,7 +28,7 @@ impl<C: Client, W: Choice> pass_table::Kind<Manages<C>> for Chosen<W> {
     ghost tells = { λ plan caller part carried found e. TellsKind C.terms plan caller W.kind part carried found e };
 }
 
-/// The spot that a step of the client is on, and what it does there. Each such step picks them.
+/// The spot that a step of the client or a hold is on, and what a step does there. Each picks them.
 pub trait SpotChoice {
     ghost use Rattle.pgas_base.specs.declared.spots.Spot.{Spot};
     ghost use Rattle.epoch_table.specs.Clients.{Change};
@@ -56,6 +56,17 @@ impl<C: Client, W: SpotChoice> pass_table::Kind<Manages<C>> for Stepped<W> {
     ghost use Rattle.epoch_table.specs.Spots.{TellsAt};
 
     ghost tells = { λ plan caller part carried told e. TellsAt C.terms plan caller W.spot W.change part carried told e };
+}
+
+/// A hold of the link at the chosen spot.
+pub struct Held<W> {
+    marker: PhantomData<W>,
+}
+
+impl<C: Client, W: SpotChoice> pass_table::Kind<Manages<C>> for Held<W> {
+    ghost use Rattle.epoch_table.specs.Holds.{TellsHold};
+
+    ghost tells = { λ plan caller part carried found e. TellsHold C.terms plan caller W.spot part carried found e };
 }
 
 /// The word of a row that a read or a fill is on, and the value of a fill. Each picks them.

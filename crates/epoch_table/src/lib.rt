@@ -6,8 +6,8 @@
 //!
 //! Each function makes one step of its kind, where the kind's row is met by what the caller's seat knows; it answers
 //! the number that it read, and its clause says what the step left the seat and listed. There are functions for all
-//! kinds but the hold of a link, for the steps on the client's own words and on rows of objects that a pass holds or
-//! owns; an opening, notes and a close. What a pass knows of the objects that it has, as far as its own steps told it,
+//! kinds, for the steps on the client's own words and on rows of objects that a pass holds or owns; an opening, notes
+//! and a close. What a pass knows of the objects that it has, as far as its own steps told it,
 //! no other's step changes. A `Client` brings words of its own, an object whose entries stand in the same history, and a
 //! rule; its laws say that the rule is kept where an object is taken, shown, given back, deferred or freed.
 #![tactic(auto)]
@@ -17,6 +17,7 @@ mod closed_words;
 mod closing;
 mod deferrals;
 mod events;
+mod holds;
 mod homes;
 mod kinds;
 mod layout;

@@ -24,7 +24,7 @@ defer_look-tag-requires-clause-may g c =
     let p = plan_of c.args.self.now in
     let m = me_of c.args.seat.now in
     let q = c.args.ptr in
-    may_look K o s p m q c.requires.below c.requires.inside c.requires.pinned c.requires.may
+    may_look K o s p m q c.requires.below c.requires.pinned c.requires.may
 
 pub defer_swap-old-requires-clause-locale : goal.defer_swap-old-requires-clause-locale
 defer_swap-old-requires-clause-locale g c =
@@ -92,7 +92,7 @@ defer_link-requires-clause-pointer g c =
     let j = me_of c.defer_swap-old.new.seat in
     let old = c.defer_swap-old.result in
     let swaps = c.defer_swap-old.ensures.makes in
-    (sym (ap (λ x. x.seat.deferral.pointer) (swapped_so K o s p q m k tag looks j old swaps).1), subst (λ h. IsPlace h (place_of q)) c.args.self.now.words.planned c.requires.inside)
+    (sym (ap (λ x. x.seat.deferral.pointer) (swapped_so K o s p q m k tag looks j old swaps).1), subst (λ h. IsPlace h (place_of q)) c.args.self.now.words.planned looks.0.1)
 
 pub defer_link-requires-clause-old : goal.defer_link-requires-clause-old
 defer_link-requires-clause-old g c =

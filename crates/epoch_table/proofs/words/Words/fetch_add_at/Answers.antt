@@ -12,12 +12,12 @@ use Rattle.epoch_table.proofs.words.Words.fetch_add_at.Goals as goal
 pub spot_at-at-requires-clause-site : goal.spot_at-at-requires-clause-site
 spot_at-at-requires-clause-site g c =
     let self = c.args.self.now in
-    subst (λ shape. IsSite shape (site_of c.args.spot)) self.planned (site_so g.C.Client.terms self.table.table.shared.key _ c.args.spot _ _ c.requires.may)
+    subst (λ shape. IsSite shape (site_of c.args.spot)) self.planned (site_so g.C.Client.terms self.table.table.shared.key _ c.args.spot _ c.requires.may.reaches)
 
 pub fetch_add-requires-clause-word : goal.fetch_add-requires-clause-word
 fetch_add-requires-clause-word g c =
     let self = c.args.self.now in
-    subst (λ n. c.spot_at-at.result < n) (sym self.wide) (spot_within g.C.Client.terms self.shape self.table.table.shared.key c.args.spot _ _ _ c.spot_at-at.result self.planned c.requires.may c.spot_at-at.ensures)
+    subst (λ n. c.spot_at-at.result < n) (sym self.wide) (spot_within g.C.Client.terms self.shape self.table.table.shared.key c.args.spot _ _ c.spot_at-at.result self.planned c.requires.may.reaches c.spot_at-at.ensures)
 
 pub fetch_add-requires-clause-permits : goal.fetch_add-requires-clause-permits
 fetch_add-requires-clause-permits g c =

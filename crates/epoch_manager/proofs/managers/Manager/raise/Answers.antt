@@ -1,0 +1,44 @@
+use Rattle.std.proofs.Common.{◌∙◌, ap}
+use Rattle.pass_table.specs.Passes.{me_of}
+use Rattle.epoch_table.specs.Clients.{Raises}
+use Rattle.epoch_manager.specs.Managers.{plan_of}
+use Rattle.epoch_manager.proofs.PassClauses.{fits_plan}
+use Rattle.epoch_manager.proofs.SpotClauses.{may_step, step_done, enters_what}
+use Rattle.epoch_manager.proofs.managers.Manager.raise.Goals as goal
+
+pub raise-requires-clause-may : goal.raise-requires-clause-may
+raise-requires-clause-may g c =
+    let K = g.C.Client.terms in
+    let o = g.C.Object.Object.opens in
+    let s = g.C.Object.Object.step in
+    let p = plan_of c.args.self.now in
+    let m = me_of c.args.pass.now.pass.seat in
+    let phase = c.args.pass.now.phase in
+    let fits = c.args.pass.now.fits p (ap (λ x. x.plan) c.requires.opening) in
+    may_step K o s p m m phase fits c.args.spot (Raises c.args.by) c.requires.reached c.requires.allowed
+
+pub invariant_of-pass : goal.invariant_of-pass
+invariant_of-pass g c =
+    let K = g.C.Client.terms in
+    let o = g.C.Object.Object.opens in
+    let s = g.C.Object.Object.step in
+    let p = plan_of c.args.self.now in
+    let m = me_of c.args.pass.now.pass.seat in
+    let phase = c.args.pass.now.phase in
+    let fits = c.args.pass.now.fits p (ap (λ x. x.plan) c.requires.opening) in
+    let n = me_of c.raise.new.seat in
+    let d = step_done K o s p m n phase fits c.args.spot (Raises c.args.by) c.raise.result c.raise.ensures.steps in
+    ((d.rests, (d.carried ∙ c.args.pass.now.pass.empty_handed, tt)), (fits_plan K o s p n.0 phase (ap (λ x. x.plan) c.raise.ensures.seat) d.fits, tt))
+
+pub returns-clause-enters : goal.returns-clause-enters
+returns-clause-enters g c =
+    let K = g.C.Client.terms in
+    let o = g.C.Object.Object.opens in
+    let s = g.C.Object.Object.step in
+    let p = plan_of c.args.self.now in
+    let m = me_of c.args.pass.now.pass.seat in
+    let phase = c.args.pass.now.phase in
+    let fits = c.args.pass.now.fits p (ap (λ x. x.plan) c.requires.opening) in
+    let n = me_of c.raise.new.seat in
+    let d = step_done K o s p m n phase fits c.args.spot (Raises c.args.by) c.raise.result c.raise.ensures.steps in
+    enters_what K o s p m n _ _ d.goes

@@ -1,0 +1,58 @@
+use Rattle.std.proofs.Common.{◌∙◌, ap, None}
+use Rattle.pass_table.specs.Passes.{me_of}
+use Rattle.epoch_manager.specs.Managers.{plan_of}
+use Rattle.epoch_manager.proofs.PassClauses.{fits_plan}
+use Rattle.epoch_manager.proofs.SpotClauses.{may_read, read_done, enters_what, among_held, among_owned}
+use Rattle.epoch_manager.proofs.managers.Manager.read.Goals as goal
+
+pub read-requires-clause-may : goal.read-requires-clause-may
+read-requires-clause-may g c =
+    let K = g.C.Client.terms in
+    let o = g.C.Object.Object.opens in
+    let s = g.C.Object.Object.step in
+    let p = plan_of c.args.self.now in
+    let m = me_of c.args.pass.now.pass.seat in
+    let phase = c.args.pass.now.phase in
+    let fits = c.args.pass.now.fits p (ap (λ x. x.plan) c.requires.opening) in
+    may_read K o s p m m phase fits c.args.ptr c.args.at c.requires.at c.requires.has
+
+pub invariant_of-pass : goal.invariant_of-pass
+invariant_of-pass g c =
+    let K = g.C.Client.terms in
+    let o = g.C.Object.Object.opens in
+    let s = g.C.Object.Object.step in
+    let p = plan_of c.args.self.now in
+    let m = me_of c.args.pass.now.pass.seat in
+    let phase = c.args.pass.now.phase in
+    let fits = c.args.pass.now.fits p (ap (λ x. x.plan) c.requires.opening) in
+    let n = me_of c.read.new.seat in
+    let d = read_done K o s p m n phase fits c.args.ptr c.args.at c.read.result c.read.ensures.reads in
+    ((d.rests, (d.carried ∙ c.args.pass.now.pass.empty_handed, tt)), (fits_plan K o s p n.0 phase (ap (λ x. x.plan) c.read.ensures.seat) d.fits, tt))
+
+pub returns-clause-enters : goal.returns-clause-enters
+returns-clause-enters g c =
+    let K = g.C.Client.terms in
+    let o = g.C.Object.Object.opens in
+    let s = g.C.Object.Object.step in
+    let p = plan_of c.args.self.now in
+    let m = me_of c.args.pass.now.pass.seat in
+    let phase = c.args.pass.now.phase in
+    let fits = c.args.pass.now.fits p (ap (λ x. x.plan) c.requires.opening) in
+    let n = me_of c.read.new.seat in
+    let d = read_done K o s p m n phase fits c.args.ptr c.args.at c.read.result c.read.ensures.reads in
+    enters_what K o s p m n _ None d.goes
+
+pub returns-clause-found : goal.returns-clause-found
+returns-clause-found g c =
+    let K = g.C.Client.terms in
+    let o = g.C.Object.Object.opens in
+    let s = g.C.Object.Object.step in
+    let p = plan_of c.args.self.now in
+    let m = me_of c.args.pass.now.pass.seat in
+    let phase = c.args.pass.now.phase in
+    let fits = c.args.pass.now.fits p (ap (λ x. x.plan) c.requires.opening) in
+    let found = c.read.ensures.reads.0 in
+    record {
+      held = λ has. found.held (among_held K o s p m m phase fits c.args.ptr has);
+      owned = λ has. found.owned (among_owned K o s p m m phase fits c.args.ptr has);
+    }
