@@ -21,7 +21,6 @@ mod plain_cells;
 mod reads;
 mod reclaims;
 mod returns;
-mod returns;
 mod spots;
 mod tokens;
 
