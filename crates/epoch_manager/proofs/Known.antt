@@ -27,7 +27,7 @@ below_so a b is = grind arith
 pub ltb_so : (a b : ℕ) → a < b → ltb a b ≡ true
 ltb_so a b h = grind arith
 
-some_so : (x : Option ℕ) → is_some x ≡ true → x ≡ Some (unwrap_or x 0)
+pub some_so : (x : Option ℕ) → is_some x ≡ true → x ≡ Some (unwrap_or x 0)
 some_so None is = absurd (false≢true is)
 some_so (Some n) is = refl
 

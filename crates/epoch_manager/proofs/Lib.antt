@@ -9,5 +9,6 @@ pub mod PassClauses
 pub mod ObjectSteps
 pub mod Returned
 pub mod SpotClauses
+pub mod HoldClauses
 pub mod Openings
 pub mod Closings

@@ -1,30 +1,27 @@
 -- What the clauses of steps on words of a client, and of reads of rows, say.
-use Rattle.std.proofs.Common.{◌≡◌, ◌⊎◌, ◌<◌, ◌++◌, ℕ, true, false, List, [], Option, Some, None, refl, ap, sym, ◌∙◌, subst, inl, inr, ⊎_elim}
+use Rattle.std.proofs.Common.{◌≡◌, ◌⊎◌, ◌<◌, ℕ, true, List, [], Option, Some, None, ◌∙◌, ⊎_elim}
 use Rattle.std.specs.List.{Contains}
 use Rattle.std.proofs.lemmas.List.{append-nil}
 use Rattle.pass_book.specs.declared.entries.Entry.{Entry}
-use Rattle.pass_book.specs.declared.entries.Look.{Look}
 use Rattle.pgas_base.specs.Pointers.{Pointer}
 use Rattle.pgas_base.specs.declared.spots.Spot.{Spot}
 use Rattle.pgas_base.specs.declared.spots.Spot.TheVariants.{Own as OwnSpot, Row as RowSpot}
 use Rattle.epoch_laws.specs.declared.steps.Kind.TheVariants.{Touch}
-use Rattle.epoch_laws.specs.Places.{Place, place_of, is_among}
-use Rattle.epoch_laws.specs.Seats.{is_reclaiming}
-use Rattle.epoch_laws.specs.Words.{WordName}
+use Rattle.epoch_laws.specs.Places.{place_of, is_among}
 use Rattle.epoch_laws.proofs.Lists.{among-append_left, among-append_right}
 use Rattle.pass_table.proofs.Going.{enters_of, nothing_of}
 use Rattle.epoch_table.specs.declared.events.Happens.{Happens}
 use Rattle.epoch_table.specs.declared.events.Happens.TheVariants.{Enters as IsEntry}
 use Rattle.epoch_table.specs.declared.parts.Plan.{Plan}
 use Rattle.epoch_table.specs.declared.parts.Part.{Part}
-use Rattle.epoch_table.specs.Clients.{ClientTerms, Change as SpotChange, Looks, Steps}
+use Rattle.epoch_table.specs.Clients.{ClientTerms, Change as SpotChange, Steps}
 use Rattle.epoch_table.specs.Events.{PastOpens, PastSteps}
 use Rattle.epoch_table.specs.Knowledge.{Row}
 use Rattle.epoch_table.specs.RowSteps.{MayRead, Reads}
 use Rattle.epoch_table.specs.Rule.{manager_terms, is_between}
 use Rattle.epoch_table.specs.Spots.{happened, acted, entries_acted, Reaches, MayStep, StepsAt}
 use Rattle.epoch_manager.specs.declared.phases.Phase.{Phase}
-use Rattle.epoch_manager.specs.Fits.{stands_as, is_inside, IsKept, PassFits}
+use Rattle.epoch_manager.specs.Fits.{stands_as, IsKept, PassFits}
 use Rattle.epoch_manager.specs.Managers.{pointers}
 use Rattle.epoch_manager.specs.SpotCalls.{IsReached, EntersWhat}
 use Rattle.epoch_manager.proofs.Known.{IsKnownAmong, one_of}

@@ -12,3 +12,5 @@ pub mod Reclaiming
 pub mod Opened
 pub mod Closed
 pub mod SpotCalls
+pub mod HeldNumbers
+pub mod HoldCalls

@@ -64,7 +64,11 @@ fn bare<C: Client>(mut passes: Vec<Pass<C>>, mut bare: Vec<TablePass<C>>) -> Vec
     ensures { result.items ≡ map (λ p. p.pass) passes.items }
 {
     while let Some(pass) = passes.pop() {
-        let ClientPass { pass, phase: _ } = pass;
+        let ClientPass {
+            pass,
+            phase: _,
+            held: _,
+        } = pass;
         bare.push_reserved(pass);
     }
     bare.as_mut_slice().reverse();

@@ -2,15 +2,16 @@
 //! of `epoch_table`.
 //!
 //! There are the opening with its refusals, the calls on tokens (register, unregister, pin, unpin), those on an object
-//! that the caller owns (fill, show, give_back) or has cut out (defer_delete), steps on the client's words and on rows,
-//! reads, notes and the close, for any client; and `Cells`, a client whose links are a row of cells. The calls by which
-//! objects are taken, held and reclaimed are not there yet.
+//! that the caller owns (fill, show, give_back) or has cut out (defer_delete), holds of links, steps on the client's
+//! words and on rows (look, put, switch, trade, raise), reads, notes and the close, for any client; and `Cells`, a client
+//! whose links are a row of cells. The calls by which objects are taken and reclaimed are not there yet.
 #![tactic(auto)]
 
 mod cells;
 mod closing;
 mod deferrals;
 mod faults;
+mod holds;
 mod managers;
 mod notes;
 mod objects;
@@ -27,7 +28,7 @@ mod tokens;
 pub use cells::{Cells, CellsView};
 pub use closing::{Closed, ManagerBack};
 pub use faults::{OpenFault, TokensFull};
-pub use managers::{ClientPass, Manager, Note, Pass};
+pub use managers::{ClientPass, MOST_HELD, Manager, Note, Pass};
 pub use phases::Phase;
 pub use plain_cells::{CellCall, PlainCells};
 

@@ -1,13 +1,18 @@
 //! A manager as its callers share it, and their passes.
-ghost use Rattle.std.specs.Prelude.{◌≡◌, ◌<◌};
+ghost use Rattle.std.specs.Prelude.{◌≡◌, ◌<◌, map};
 ghost use Rattle.std.specs.Option.{ForSome};
 ghost use Rattle.pass_table.specs.Passes.{plan_of, pass_view};
 ghost use Rattle.epoch_manager.specs.Fits.{PassFits};
+ghost use Rattle.epoch_manager.specs.HeldNumbers.{number_of};
 
 use crate::phases::Phase;
+use arrayvec::ArrayVec;
 use epoch_table::{CallOf, Client, Happens, Name, Part, Plan, ReplyOf, TableNote, Words};
 use pgas_base::Shape;
 use std::alloc::Global;
+
+/// The most objects that a pass holds.
+pub const MOST_HELD: usize = 4;
 
 /// One caller's pass to a manager, by the manager's client and what that knows, calls and replies. A pass that is
 /// dropped is given up: its token stays registered, what it owns stays owned, and its entries stand in the history.
@@ -15,7 +20,10 @@ use std::alloc::Global;
 pub struct ClientPass<K, V, Q, R> {
     pub(crate) pass: pass_table::Pass<(), Happens<Q, R>, (), Plan<K>, Part<V>, Name>,
     pub(crate) phase: Phase,
+    // The objects that it holds: of each its locale above the low 24 bits, and its index in them.
+    pub(crate) held: ArrayVec<u32, MOST_HELD>,
     ghost fits: { ForSome (pass_view pass).plan (λ plan. PassFits plan (pass_view pass) phase) },
+    ghost holds: { held.items ≡ map number_of (pass_view pass).part.seat.held },
 }
 
 /// One caller's pass to a manager.

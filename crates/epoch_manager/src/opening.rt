@@ -7,6 +7,7 @@ ghost use Rattle.epoch_manager.specs.Opened.{Breaks, IsIn, IsNew, IsIdlePass, Is
 use crate::faults::OpenFault;
 use crate::managers::{ClientPass, Manager, Pass};
 use crate::phases::Phase;
+use arrayvec::ArrayVec;
 use epoch_table::{Client, TablePass, Words};
 use pgas_base::{Shape, ShapeFault, Start};
 use std::alloc::{AllocError, Global};
@@ -69,6 +70,7 @@ fn wrap<C: Client>(
         wrapped.push(ClientPass {
             pass,
             phase: Phase::Idle,
+            held: ArrayVec::new(),
         })?;
     }
     wrapped.as_mut_slice().reverse();

@@ -1,8 +1,9 @@
 ghost use Rattle.std.specs.Prelude.{◌≡◌, ◌<◌, length, All, IfSome};
+ghost use Rattle.epoch_laws.specs.declared.tokens.Token.{Token};
 ghost use Rattle.epoch_manager.specs.Opened.{AreOfOpening, IsIdlePass};
 ghost use Rattle.pgas_base.specs.declared.spots.Spot.TheVariants.{Own as OwnSpot};
 ghost use Rattle.epoch_manager.specs.Cells.{cells_terms};
-ghost use Rattle.epoch_manager.specs.Managers.{plan_of, opening_of, callers_of, pass_opening, phase_of, shape_of};
+ghost use Rattle.epoch_manager.specs.Managers.{plan_of, opening_of, callers_of, pass_opening, phase_of, held_by, shape_of};
 
 use super::*;
 use epoch_table::Client;
@@ -266,4 +267,50 @@ fn steps_answer_what_stood_in_the_word(rt: HostRuntime) {
     };
     let answers = steps_on_a_word(&manager, &mut pass);
     assert_eq!(rt; answers, [5, 5, 7, 7, u64::MAX, 1]);
+}
+
+fn first_cell() -> Spot
+    ensures { result ≡ OwnSpot 0 }
+{
+    Spot::Own { word: 0 }
+}
+
+// What a pinned caller finds in a cell: what a hold of it answers, how many objects are then held, what stands in the row of the one
+// that is held, and what a switch of the cell to empty answers.
+fn look_into_a_cell(manager: &Manager<Cells>, pass: &mut Pass<Cells>) -> (Option<u64>, u32, u64)
+    requires pass { pass_opening pass.old ≡ opening_of manager.now }
+    requires phase { (token : Token) × (phase_of pass.old ≡ Phase.Pinned token) }
+    requires room { length (held_by pass.old) < 4 }
+    requires cells { 0 < (plan_of manager.now).own }
+    requires width { 0 < (shape_of manager.now).width }
+{
+    let row = match manager.hold(pass, first_cell()) {
+        Some(ptr) => Some(manager.read(pass, ptr, 0)),
+        None => None,
+    };
+    let held = pass.held();
+    let switched = manager.switch(pass, first_cell(), 0);
+    (row, held, switched)
+}
+
+#[test]
+fn an_empty_cell_names_no_object(rt: HostRuntime) {
+    let (manager, mut passes) = Manager::open(
+        rt.alloc(),
+        shape(1),
+        Start::usual(),
+        1,
+        Cells::new(1),
+    ).expect(&rt, "memory");
+    let Some(mut pass) = take_pass(&manager, &mut passes) else {
+        return;
+    };
+    assert_eq!(rt; pass.held(), 0);
+    let _ = manager.register(&mut pass, 0);
+    if let Phase::Registered { .. } = pass.phase() {
+        manager.pin(&mut pass);
+        if pass.held() < 4 {
+            assert_eq!(rt; look_into_a_cell(&manager, &mut pass), (None, 0, 0));
+        }
+    }
 }

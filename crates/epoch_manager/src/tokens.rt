@@ -127,6 +127,7 @@ impl<C: Client> Manager<C> {
             unreachable!()
         };
         self.words.unpin(&mut pass.pass.seat, token);
+        pass.held.clear();
         pass.phase = Phase::Registered { token };
     }
 }

@@ -4,6 +4,7 @@ use Rattle.epoch_laws.specs.Words.{local_epoch}
 use Rattle.pass_table.specs.Passes.{me_of}
 use Rattle.epoch_manager.specs.Managers.{pointers, plan_of}
 use Rattle.epoch_manager.proofs.PassClauses.{stands_registered, inside_so, pin_done, done_listed, done_read, done_begins, done_fits, same_registered, Changed}
+use Rattle.epoch_manager.proofs.HoldClauses.{numbers_stay}
 use Rattle.epoch_manager.proofs.managers.Manager.pin.Goals as goal
 
 pub pin_seat-requires-clause-below : goal.pin_seat-requires-clause-below
@@ -71,7 +72,7 @@ invariant_of-pass-2 g c =
     let t = c.in-Registered.token in
     let n = me_of c.pin_seat.new.seat in
     let d = pin_done K o s p m n phase fits t c.pin_seat.result is c.pin_seat.ensures.pins in
-    record { fits = done_fits K o s p m n _ _ _ _ d (ap (λ x. x.plan) c.pin_seat.ensures.seat) }
+    record { fits = done_fits K o s p m n _ _ _ _ d (ap (λ x. x.plan) c.pin_seat.ensures.seat); holds = numbers_stay _ m.0.part _ n.0.part c.args.pass.now.holds d.goes.1 refl }
 
 pub returns-clause-same : goal.returns-clause-same
 returns-clause-same g c =

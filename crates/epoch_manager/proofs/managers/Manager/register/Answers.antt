@@ -1,7 +1,8 @@
-use Rattle.std.proofs.Common.{◌∙◌, sym, ap, subst}
+use Rattle.std.proofs.Common.{◌∙◌, sym, ap, subst, refl}
 use Rattle.pass_table.specs.Passes.{me_of}
 use Rattle.epoch_manager.specs.Managers.{plan_of, ListsItems, ReadsWords}
 use Rattle.epoch_manager.proofs.PassClauses.{stands_idle, register_done, refused_done, taken_rests, done_listed, done_read, done_begins, done_fits, Changed}
+use Rattle.epoch_manager.proofs.HoldClauses.{numbers_stay}
 use Rattle.epoch_manager.proofs.managers.Manager.register.Goals as goal
 use Rattle.epoch_manager.specs.Tokens.{registered_items, RegisterCause}
 
@@ -54,7 +55,7 @@ invariant_of-pass-in_default g c =
     let idle = stands_idle m.0.part.seat phase c.requires.phase fits.stands in
     let takes = c.in_default.ensures.takes in
     let d = refused_done K o s p m n phase fits c.args.locale takes idle in
-    record { fits = done_fits K o s p m n _ _ _ _ d (ap (λ x. x.plan) c.take_token-taken.ensures.seat) }
+    record { fits = done_fits K o s p m n _ _ _ _ d (ap (λ x. x.plan) c.take_token-taken.ensures.seat); holds = numbers_stay _ m.0.part _ n.0.part c.args.pass.now.holds d.goes.1 refl }
 
 pub returns-in_default-clause-history : goal.returns-in_default-clause-history
 returns-in_default-clause-history g c =
@@ -114,7 +115,7 @@ invariant_of-pass-2 g c =
     let idle = stands_idle m.0.part.seat phase c.requires.phase fits.stands in
     let takes = c.in-Some.ensures.takes in
     let d = register_done K o s p m n phase fits c.args.locale c.in-Some.number c.requires.phase takes c.requires.locale in
-    record { fits = done_fits K o s p m n _ _ _ _ d (ap (λ x. x.plan) c.take_token-taken.ensures.seat) }
+    record { fits = done_fits K o s p m n _ _ _ _ d (ap (λ x. x.plan) c.take_token-taken.ensures.seat); holds = numbers_stay _ m.0.part _ n.0.part c.args.pass.now.holds d.goes.1 refl }
 
 pub returns-clause-history : goal.returns-clause-history
 returns-clause-history g c =

@@ -1,10 +1,11 @@
-use Rattle.std.proofs.Common.{◌∙◌, sym, ap, refl, subst, inr, []}
+use Rattle.std.proofs.Common.{◌∙◌, sym, ap, refl, subst, inr, [], map}
 use Rattle.epoch_laws.specs.declared.events.EpochEvent.TheVariants.{Unpinned}
 use Rattle.epoch_laws.specs.Needs.{event}
 use Rattle.epoch_laws.specs.Timing.{IsToken}
 use Rattle.pass_table.specs.Passes.{me_of}
 use Rattle.epoch_manager.specs.Managers.{pointers, plan_of, ListsItems}
 use Rattle.epoch_manager.proofs.PassClauses.{stands_pinned, inside_so, may_unpin, unpin_done, done_listed, done_begins, done_fits, done_looked, same_pinned, Changed}
+use Rattle.epoch_manager.specs.HeldNumbers.{number_of}
 use Rattle.epoch_manager.proofs.managers.Manager.unpin.Goals as goal
 
 pub unpin-requires-clause-token : goal.unpin-requires-clause-token
@@ -61,7 +62,7 @@ invariant_of-pass-2 g c =
     let t = c.in-Pinned.token in
     let n = me_of c.unpin.new.seat in
     let d = unpin_done K o s p m n phase fits t is c.unpin.ensures.makes in
-    record { fits = done_fits K o s p m n _ _ _ _ d (ap (λ x. x.plan) c.unpin.ensures.seat) }
+    record { fits = done_fits K o s p m n _ _ _ _ d (ap (λ x. x.plan) c.unpin.ensures.seat); holds = c.clear.ensures ∙ ap (λ x. map number_of x.seat.held) (sym d.goes.1) }
 
 pub returns-clause-owned : goal.returns-clause-owned
 returns-clause-owned g c =

@@ -5,6 +5,7 @@ use Rattle.epoch_laws.specs.Timing.{IsToken}
 use Rattle.pass_table.specs.Passes.{me_of}
 use Rattle.epoch_manager.specs.Managers.{pointers, plan_of, ListsItems}
 use Rattle.epoch_manager.proofs.PassClauses.{stands_registered, inside_so, may_unregister, unregister_done, done_listed, done_begins, done_fits, done_looked, same_registered, Changed}
+use Rattle.epoch_manager.proofs.HoldClauses.{numbers_stay}
 use Rattle.epoch_manager.proofs.managers.Manager.unregister.Goals as goal
 
 pub unregister-requires-clause-token : goal.unregister-requires-clause-token
@@ -61,7 +62,7 @@ invariant_of-pass-2 g c =
     let t = c.in-Registered.token in
     let n = me_of c.unregister.new.seat in
     let d = unregister_done K o s p m n phase fits t is c.unregister.ensures.makes in
-    record { fits = done_fits K o s p m n _ _ _ _ d (ap (λ x. x.plan) c.unregister.ensures.seat) }
+    record { fits = done_fits K o s p m n _ _ _ _ d (ap (λ x. x.plan) c.unregister.ensures.seat); holds = numbers_stay _ m.0.part _ n.0.part c.args.pass.now.holds d.goes.1 refl }
 
 pub returns-clause-same : goal.returns-clause-same
 returns-clause-same g c =
