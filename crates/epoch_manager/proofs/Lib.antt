@@ -5,6 +5,7 @@ pub mod TokenSteps
 pub mod DeferralSteps
 pub mod ReturnSteps
 pub mod ScanSteps
+pub mod ReclaimSteps
 pub mod PassClauses
 pub mod ObjectSteps
 pub mod Returned

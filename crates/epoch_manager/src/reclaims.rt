@@ -32,7 +32,7 @@ impl<C: Client> Manager<C> {
     }
 
     // Loads the word of each token, by rising locale and then rising number, up to the first that stops a reclaim of this epoch.
-    fn scan(&self, seat: &mut TableSeat<C>, epoch: u64) -> Option<Stop>
+    fn scan_tokens(&self, seat: &mut TableSeat<C>, epoch: u64) -> Option<Stop>
         requires seat { IsSeatOf self.now.words.table seat.old }
         requires below { (view_of seat.old).number < callers_of self.now }
         requires epoch { epoch < last_epoch }

@@ -1,7 +1,7 @@
 use Rattle.pass_table.specs.Passes.{IsSeatOf, me_of}
 use Rattle.epoch_manager.specs.Managers.{plan_of}
 use Rattle.epoch_manager.proofs.ScanSteps.{HasPassed}
-use Rattle.epoch_manager.proofs.managers.Manager.scan.Given as goal
+use Rattle.epoch_manager.proofs.managers.Manager.scan_tokens.Given as goal
 
 abbrev pub invariant-loop-number : goal.invariant-loop-number
 invariant-loop-number g l = record {

@@ -5,7 +5,7 @@ use Rattle.pass_table.specs.Passes.{me_of}
 use Rattle.epoch_manager.specs.Managers.{plan_of}
 use Rattle.epoch_manager.specs.Reclaiming.{nth_token}
 use Rattle.epoch_manager.proofs.ScanSteps.{none_passed, may_scan, one_passed, stops_it, all_passed}
-use Rattle.epoch_manager.proofs.managers.Manager.scan.Goals as goal
+use Rattle.epoch_manager.proofs.managers.Manager.scan_tokens.Goals as goal
 
 pub loop-number-init : goal.loop-number-init
 loop-number-init g c =
