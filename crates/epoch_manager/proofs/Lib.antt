@@ -4,8 +4,8 @@ pub mod Known
 pub mod TokenSteps
 pub mod DeferralSteps
 pub mod ReturnSteps
-pub mod ScanSteps
 pub mod ReclaimSteps
+pub mod ScanSteps
 pub mod Crowds
 pub mod PassClauses
 pub mod ObjectSteps

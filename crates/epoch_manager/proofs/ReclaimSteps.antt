@@ -16,6 +16,10 @@ use Rattle.epoch_laws.proofs.Updates.{number_here}
 use Rattle.epoch_table.specs.Facts.{Facts, count_of}
 use Rattle.epoch_table.specs.Knowledge.{Row, Told, tells}
 
+-- where a look at the epoch leaves the seat
+abbrev pub looked_phase : ℕ → Phase
+looked_phase epoch = if ltb epoch last_epoch then Scanning else Stopped
+
 module _ (shape : Shape) (seats c : ℕ) (seat : Seat) (facts : Facts) where
   -- ---- elections
 
@@ -44,10 +48,6 @@ module _ (shape : Shape) (seats c : ℕ) (seat : Seat) (facts : Facts) where
   local_left found is = rw is (ap (λ (s : Seat). record { seat = s; items = Leaves c false ∷ [] }) (number_here (λ d. seat) c (record seat { phase = Registered })))
 
   -- ---- the epoch
-
-  -- where a look at the epoch leaves the seat
-  abbrev pub looked_phase : ℕ → Phase
-  looked_phase epoch = if ltb epoch last_epoch then Scanning else Stopped
 
   pub epoch_told : (found : ℕ)
       → tells shape seats c seat facts EpochLook found ≡ record { seat = record seat { phase = looked_phase found; reclaim = record seat.reclaim { epoch = found; scan = record { locale = 0; number = 0 } } }; items = [] }

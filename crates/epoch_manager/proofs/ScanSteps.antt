@@ -1,5 +1,5 @@
 -- What the steps of a scan come to.
-use Rattle.std.proofs.Common.{◌≡◌, ◌⊎◌, ◌<◌, ◌≤◌, ℕ, ◌+◌, ◌*◌, ◌/◌, ◌%◌, Bool, true, false, ltb, if◌then◌else◌, List, [], ◌∷◌, ◌++◌, length, refl, ap, sym, ◌∙◌, subst, arith, inl, inr, ⊎_elim, Some, None, length-append}
+use Rattle.std.proofs.Common.{◌≡◌, ◌≢◌, ◌⊎◌, ◌<◌, ◌≤◌, ℕ, ◌+◌, ◌*◌, ◌/◌, ◌%◌, Bool, true, false, ltb, if◌then◌else◌, List, [], ◌∷◌, ◌++◌, length, refl, ap, sym, ◌∙◌, subst, arith, inl, inr, ⊎_elim, Some, None, Ok, Err, length-append}
 use Rattle.std.proofs.Math.Nat.{div-add-mod}
 use Rattle.std.proofs.lemmas.Bool.{cases_Bool, ltb-true}
 use Rattle.std.proofs.lemmas.Nat.{div-mul-add, mod-mul-add}
@@ -7,9 +7,9 @@ use Rattle.pass_book.specs.declared.entries.Entry.{Entry}
 use Rattle.pass_book.specs.declared.entries.Look.{Look}
 use Rattle.pgas_base.specs.declared.shapes.Shape.{Shape}
 use Rattle.epoch_laws.specs.declared.tokens.Token.{Token}
-use Rattle.epoch_laws.specs.declared.steps.Kind.TheVariants.{ScanToken}
-use Rattle.epoch_laws.specs.ReclaimSteps.{passes, token_after, scan_token}
-use Rattle.epoch_laws.specs.Seats.{Seat, Scanning, Stopped}
+use Rattle.epoch_laws.specs.declared.steps.Kind.TheVariants.{EpochLook, ScanToken}
+use Rattle.epoch_laws.specs.ReclaimSteps.{last_epoch, passes, token_after, scan_token}
+use Rattle.epoch_laws.specs.Seats.{Seat, Phase, WonGlobal, Scanning, Stopped}
 use Rattle.epoch_laws.specs.Steps.{move}
 use Rattle.epoch_laws.specs.Words.{WordName, token}
 use Rattle.epoch_laws.proofs.Updates.{number_here}
@@ -21,9 +21,12 @@ use Rattle.epoch_table.specs.Clients.{ClientTerms}
 use Rattle.epoch_table.specs.Facts.{Facts}
 use Rattle.epoch_table.specs.Kinds.{MayMake, Makes}
 use Rattle.epoch_table.specs.Knowledge.{Row, tells}
+use Rattle.epoch_manager.specs.declared.faults.NotNow.TheVariants.{EpochsSpent, Held}
 use Rattle.epoch_manager.specs.declared.reclaims.Stop.{Stop}
-use Rattle.epoch_manager.specs.Reclaiming.{nth_token, ArePassed, IsStopped, IsScanning, scanned, stopped, Scans}
+use Rattle.epoch_manager.specs.Reclaiming.{nth_token, ArePassed, IsStopped, IsScanning, scanned, epoch_read, looking, stopped, Scans, LooksAndScans}
 use Rattle.epoch_manager.specs.Tokens.{token_read}
+use Rattle.epoch_manager.proofs.Known.{ltb_so}
+use Rattle.epoch_manager.proofs.ReclaimSteps.{looked_phase, epoch_told, epoch_row}
 use Rattle.epoch_manager.proofs.TokenSteps.{Seated, Goes, made_of, then_goes}
 
 next_token : (tokens k : ℕ) → 1 ≤ tokens → token_after tokens (nth_token tokens k) ≡ nth_token tokens (k + 1)
@@ -165,3 +168,69 @@ module _ {C View' Call Reply State' : Type 0} (K : ClientTerms C View' Call Repl
           subst (λ i. Goes K opens step plan m n has.words [] (scanned plan.shape.tokens i m.0.part)) all
               (⊎_elim (λ t. let none : length has.words ≡ 0 = ap length t.1 in absurd (omega arith)) (λ t. t) has.so),
         )
+
+  -- ---- with a look at the epoch before it
+
+  pub may_look : (m : Seated K opens step plan) → m.0.number < plan.callers → m.0.part.seat.phase ≡ WonGlobal → MayMake K plan m.0.number EpochLook m.0.part
+  may_look m below is = record { row = epoch_row plan.shape plan.callers m.0.number m.0.part.seat m.0.part.facts below is; made = tt; allowed = tt }
+
+  module _ (m j : Seated K opens step plan) (epoch : ℕ) (looks : Makes K opens step plan EpochLook m epoch j) where
+    pub low_epoch : epoch ≢ last_epoch → epoch < last_epoch
+    low_epoch ne = less epoch looks.0 ne
+      where
+        less : (e : ℕ) → e ≤ 4611686018427387904 → e ≢ 4611686018427387904 → e < 4611686018427387904
+        less e low ne = omega arith
+
+    looked_so : (phase : Phase) → looked_phase epoch ≡ phase
+        → Goes K opens step plan m j (epoch_read epoch ∷ []) [] (record m.0.part { seat = record m.0.part.seat { phase = phase; reclaim = record m.0.part.seat.reclaim { epoch = epoch; scan = record { locale = 0; number = 0 } } } })
+    looked_so phase is =
+        let made = made_of K opens step plan EpochLook m j epoch _ (epoch_told plan.shape plan.callers m.0.number m.0.part.seat m.0.part.facts epoch) looks in
+        subst
+        (λ (p : Phase).
+        Goes K opens step plan m j (epoch_read epoch ∷ []) [] (record m.0.part { seat = record m.0.part.seat { phase = p; reclaim = record m.0.part.seat.reclaim { epoch = epoch; scan = record { locale = 0; number = 0 } } } }))
+        is made
+
+    looking_so : epoch ≢ last_epoch → Goes K opens step plan m j (epoch_read epoch ∷ []) [] (looking epoch m.0.part)
+    looking_so ne = looked_so Scanning (scans_so epoch (low_epoch ne))
+      where
+        scans_so : (e : ℕ) → e < last_epoch → looked_phase e ≡ Scanning
+        scans_so e low = rw (ltb_so e last_epoch low) refl
+
+    pub spent_so : epoch ≡ last_epoch → LooksAndScans K opens step plan m j (Err EpochsSpent)
+    spent_so is = subst (λ e. Goes K opens step plan m j (epoch_read e ∷ []) [] (stopped (looking e m.0.part))) is (looked_so Stopped (stops_so epoch is))
+      where
+        stops_so : (e : ℕ) → e ≡ last_epoch → looked_phase e ≡ Stopped
+        stops_so e is = rw is refl
+
+    module _ (ne : epoch ≢ last_epoch) where
+      pub scanning_so : IsScanning plan.shape.tokens epoch j.0.part
+      scanning_so =
+          let is = (looking_so ne).1 in
+          record {
+            phase = ap (λ (p : Part View'). p.seat.phase) is;
+            read = ap (λ (p : Part View'). p.seat.reclaim.epoch) is;
+            first = ap (λ (p : Part View'). p.seat.reclaim.scan) is ∙ zeros plan.shape.tokens;
+          }
+        where
+          zeros : (t : ℕ) → record { locale = 0; number = 0 } ≡ nth_token t 0
+          zeros t = let a : 0 ≡ 0 / t = omega arith in let b : 0 ≡ 0 % t = omega arith in λ i. record { locale = a i; number = b i }
+
+      pub below_so : m.0.number < plan.callers → j.0.number < plan.callers
+      below_so below = let number = (looking_so ne).0.same.number in omega arith
+
+      module _ (n : Seated K opens step plan) where
+        pub passed_so : Scans K opens step plan epoch j n None → LooksAndScans K opens step plan m n (Ok epoch)
+        passed_so scans =
+            let all = plan.shape.locales * plan.shape.tokens in
+            let is = (looking_so ne).1 in
+            let goes : Goes K opens step plan j n scans.0 [] (scanned plan.shape.tokens all (looking epoch m.0.part)) = subst (λ (p : Part View'). Goes K opens step plan j n scans.0 [] (scanned plan.shape.tokens all p)) is scans.2 in
+            (low_epoch ne, (scans.0, scans.1, then_goes K opens step plan m j n (epoch_read epoch ∷ []) scans.0 [] (looking epoch m.0.part) (scanned plan.shape.tokens all (looking epoch m.0.part)) (looking_so ne) goes))
+
+        pub held_so : (stop : Stop) → Scans K opens step plan epoch j n (Some stop) → LooksAndScans K opens step plan m n (Err (Held stop.token.locale stop.token.number stop.word))
+        held_so stop scans =
+            let k = scans.0 in
+            let words = scans.3.0 in
+            let is = (looking_so ne).1 in
+            let last = stopped (scanned plan.shape.tokens k (looking epoch m.0.part)) in
+            let goes : Goes K opens step plan j n words [] last = subst (λ (p : Part View'). Goes K opens step plan j n words [] (stopped (scanned plan.shape.tokens k p))) is scans.3.2 in
+            (epoch, low_epoch ne, (k, scans.1, scans.2, (words, scans.3.1, then_goes K opens step plan m j n (epoch_read epoch ∷ []) words [] (looking epoch m.0.part) last (looking_so ne) goes)))

@@ -1,13 +1,18 @@
 //! How the epoch is advanced, and what may be released is released.
 ghost use Rattle.std.specs.Prelude.{◌≡◌, ◌*◌, ◌<◌};
 ghost use Rattle.epoch_laws.specs.ReclaimSteps.{last_epoch, passes};
+ghost use Rattle.epoch_laws.specs.Seats.{WonGlobal};
 ghost use Rattle.pass_table.specs.Passes.{IsSeatOf, view_of, me_of};
 ghost use Rattle.epoch_manager.specs.Managers.{plan_of, shape_of, callers_of};
-ghost use Rattle.epoch_manager.specs.Reclaiming.{IsScanning, Scans};
+ghost use Rattle.epoch_manager.specs.Reclaiming.{IsScanning, Scans, LooksAndScans};
 
+use crate::faults::NotNow;
 use crate::managers::Manager;
 use epoch_laws::Token;
 use epoch_table::{Client, TableSeat};
+
+// The last epoch, from which no advance is made.
+const LAST_EPOCH: u64 = 1 << 62;
 
 // A token that stops a scan, and its word.
 struct Stop {
@@ -52,5 +57,29 @@ impl<C: Client> Manager<C> {
             }
         }
         None
+    }
+
+    // Loads the global epoch and scans the tokens.
+    fn look_and_scan(&self, seat: &mut TableSeat<C>) -> Result<u64, NotNow>
+        requires seat { IsSeatOf self.now.words.table seat.old }
+        requires below { (view_of seat.old).number < callers_of self.now }
+        requires won { (view_of seat.old).part.seat.phase ≡ WonGlobal }
+        ensures seat { IsSeatOf self.now.words.table seat.new }
+        ensures looks { LooksAndScans C.terms C.Object.opens C.Object.step (plan_of self.now) (me_of seat.old) (me_of seat.new) result }
+    {
+        let epoch = self.words.epoch_look(seat);
+        let last = epoch == LAST_EPOCH;
+        if last {
+            return Err(NotNow::EpochsSpent);
+        }
+        let stop = self.scan_tokens(seat, epoch);
+        match stop {
+            None => Ok(epoch),
+            Some(Stop { token, word }) => Err(NotNow::Held {
+                locale: token.locale,
+                token: token.number,
+                word,
+            }),
+        }
     }
 }
