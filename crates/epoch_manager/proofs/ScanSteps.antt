@@ -23,7 +23,7 @@ use Rattle.epoch_table.specs.Kinds.{MayMake, Makes}
 use Rattle.epoch_table.specs.Knowledge.{Row, tells}
 use Rattle.epoch_manager.specs.declared.faults.NotNow.TheVariants.{EpochsSpent, Held}
 use Rattle.epoch_manager.specs.declared.reclaims.Stop.{Stop}
-use Rattle.epoch_manager.specs.Reclaiming.{nth_token, ArePassed, IsStopped, IsScanning, scanned, epoch_read, looking, stopped, Scans, LooksAndScans}
+use Rattle.epoch_manager.specs.Reclaiming.{nth_token, ArePassed, IsStopped, IsScanning, scanned, epoch_read, looking, reclaimed_to, stopped, Scans, LooksAndScans}
 use Rattle.epoch_manager.specs.Tokens.{token_read}
 use Rattle.epoch_manager.proofs.Known.{ltb_so}
 use Rattle.epoch_manager.proofs.ReclaimSteps.{looked_phase, epoch_told, epoch_row}
@@ -197,7 +197,9 @@ module _ {C View' Call Reply State' : Type 0} (K : ClientTerms C View' Call Repl
         scans_so e low = rw (ltb_so e last_epoch low) refl
 
     pub spent_so : epoch ≡ last_epoch → LooksAndScans K opens step plan m j (Err EpochsSpent)
-    spent_so is = subst (λ e. Goes K opens step plan m j (epoch_read e ∷ []) [] (stopped (looking e m.0.part))) is (looked_so Stopped (stops_so epoch is))
+    spent_so is =
+        let zero : Token = record { locale = 0; number = 0 } in
+        (epoch_read last_epoch ∷ [], refl, (last_epoch, zero, subst (λ e. Goes K opens step plan m j (epoch_read e ∷ []) [] (reclaimed_to Stopped e zero m.0.part)) is (looked_so Stopped (stops_so epoch is))))
       where
         stops_so : (e : ℕ) → e ≡ last_epoch → looked_phase e ≡ Stopped
         stops_so e is = rw is refl
@@ -233,4 +235,8 @@ module _ {C View' Call Reply State' : Type 0} (K : ClientTerms C View' Call Repl
             let is = (looking_so ne).1 in
             let last = stopped (scanned plan.shape.tokens k (looking epoch m.0.part)) in
             let goes : Goes K opens step plan j n words [] last = subst (λ (p : Part View'). Goes K opens step plan j n words [] (stopped (scanned plan.shape.tokens k p))) is scans.3.2 in
-            (epoch, low_epoch ne, (k, scans.1, scans.2, (words, scans.3.1, then_goes K opens step plan m j n (epoch_read epoch ∷ []) words [] (looking epoch m.0.part) last (looking_so ne) goes)))
+            (
+              epoch_read epoch ∷ words,
+              (epoch, low_epoch ne, (k, scans.1, scans.2, (words, refl, scans.3.1))),
+              (epoch, nth_token plan.shape.tokens k, then_goes K opens step plan m j n (epoch_read epoch ∷ []) words [] (looking epoch m.0.part) last (looking_so ne) goes),
+            )

@@ -1,18 +1,22 @@
 -- What a reclaim reads of the tokens.
-use Rattle.std.specs.Prelude.{◌≡◌, ◌<◌, ℕ, ◌*◌, ◌/◌, ◌%◌, true, false, List, [], ◌∷◌, ◌++◌, length, slice_get, Option, Some, None, Result, Ok, Err}
+use Rattle.std.specs.Prelude.{◌≡◌, ◌≢◌, ◌⊎◌, ◌<◌, ℕ, ◌*◌, ◌/◌, ◌%◌, true, false, List, [], ◌∷◌, ◌++◌, length, slice_get, Option, Some, None, Result, Ok, Err}
 use Rattle.atomic_table.specs.Table.{Me}
 use Rattle.pass_book.specs.declared.entries.Look.{Look}
+use Rattle.pgas_base.specs.declared.shapes.Shape.{Shape}
 use Rattle.epoch_laws.specs.declared.tokens.Token.{Token}
+use Rattle.epoch_laws.specs.declared.events.Item.{Item}
+use Rattle.epoch_laws.specs.declared.events.Item.TheVariants.{Claim, Leave}
 use Rattle.epoch_laws.specs.ReclaimSteps.{last_epoch, passes}
-use Rattle.epoch_laws.specs.Seats.{Scanning, Stopped}
-use Rattle.epoch_laws.specs.Words.{WordName, global_epoch, token}
+use Rattle.epoch_laws.specs.Seats.{Phase, Scanning, Stopped, LostGlobal, LeftGlobal}
+use Rattle.epoch_laws.specs.Words.{WordName, global_epoch, global_election, token}
 use Rattle.pass_table.specs.declared.views.View.{View}
-use Rattle.pass_table.specs.Steps.{GoesTo}
+use Rattle.pass_table.specs.Steps.{GoesTo, GoesAmongTo}
 use Rattle.epoch_table.specs.declared.events.Happens.{Happens}
 use Rattle.epoch_table.specs.declared.parts.Plan.{Plan}
 use Rattle.epoch_table.specs.declared.parts.Part.{Part}
 use Rattle.epoch_table.specs.Clients.{ClientTerms}
 use Rattle.epoch_table.specs.Events.{PastOpens, PastSteps}
+use Rattle.epoch_table.specs.Kinds.{entries_of_items}
 use Rattle.epoch_table.specs.Rule.{manager_terms}
 use Rattle.epoch_manager.specs.declared.faults.NotNow.{NotNow}
 use Rattle.epoch_manager.specs.declared.faults.NotNow.TheVariants.{LocalBusy, GlobalBusy, EpochsSpent, Held}
@@ -53,6 +57,28 @@ epoch_read epoch = record { name = global_epoch; word = epoch }
 abbrev pub looking : {View' : Type 0} → ℕ → Part View' → Part View'
 looking epoch part = record part { seat = record part.seat { phase = Scanning; reclaim = record part.seat.reclaim { epoch = epoch; scan = record { locale = 0; number = 0 } } } }
 
+-- a reclaim that has come so far
+abbrev pub reclaimed_to : {View' : Type 0} → Phase → ℕ → Token → Part View' → Part View'
+reclaimed_to phase epoch scan part = record part { seat = record part.seat { phase = phase; reclaim = record part.seat.reclaim { epoch = epoch; scan = scan } } }
+
+-- the global election was read as this
+abbrev pub global_read : ℕ → Look WordName
+global_read word = record { name = global_election; word = word }
+
+-- these words refuse it by the epoch, or by a token
+abbrev pub IsRefusedBy : Shape → NotNow → List (Look WordName) → Type 0
+IsRefusedBy shape EpochsSpent words = words ≡ epoch_read last_epoch ∷ []
+IsRefusedBy shape (Held locale number word) words =
+    (epoch : ℕ) × (epoch < last_epoch) × ((k : ℕ) × (k < shape.locales * shape.tokens) × (record { locale = locale; number = number } ≡ nth_token shape.tokens k)
+    × ((rest : List (Look WordName)) × (words ≡ epoch_read epoch ∷ rest) × IsStopped shape.tokens epoch k word rest))
+IsRefusedBy shape LocalBusy words = ⊥
+IsRefusedBy shape GlobalBusy words = ⊥
+
+-- the same, or that of the global election, and what is listed
+abbrev pub IsRefusedGlobally : Shape → ℕ → NotNow → List (Look WordName) → List Item → Type 0
+IsRefusedGlobally shape c GlobalBusy words items = (word : ℕ) × (word ≢ 0) × (words ≡ global_read word ∷ []) × (items ≡ [])
+IsRefusedGlobally shape c fault words items = (rest : List (Look WordName)) × IsRefusedBy shape fault rest × (words ≡ global_read 0 ∷ rest) × (items ≡ Claim c true ∷ Leave c true ∷ [])
+
 abbrev pub stopped : {View' : Type 0} → Part View' → Part View'
 stopped part = record part { seat = record part.seat { phase = Stopped } }
 
@@ -74,11 +100,18 @@ module _ {C View' Call Reply State' : Type 0} (K : ClientTerms C View' Call Repl
       let all = plan.shape.locales * tokens in
       (epoch < last_epoch) × ((words : List (Look WordName)) × ArePassed tokens epoch all words
       × GoesTo (manager_terms K) (PastOpens opens) (PastSteps step) plan m n (epoch_read epoch ∷ words) [] (scanned tokens all (looking epoch m.0.part)) m.1)
-  LooksAndScans m n (Err EpochsSpent) =
-      GoesTo (manager_terms K) (PastOpens opens) (PastSteps step) plan m n (epoch_read last_epoch ∷ []) [] (stopped (looking last_epoch m.0.part)) m.1
-  LooksAndScans m n (Err (Held locale number word)) =
+  LooksAndScans m n (Err fault) =
+      (words : List (Look WordName)) × IsRefusedBy plan.shape fault words
+      × ((epoch : ℕ) × (scan : Token) × GoesTo (manager_terms K) (PastOpens opens) (PastSteps step) plan m n words [] (reclaimed_to Stopped epoch scan m.0.part) m.1)
+
+  -- what the global election, a look at the epoch and a scan of the tokens do to it
+  abbrev pub EntersGlobally : Me (Unit {0}) (View (Happens Call Reply) (Unit {0}) (Plan C) (Part View') WordName) → Me (Unit {0}) (View (Happens Call Reply) (Unit {0}) (Plan C) (Part View') WordName) → Result ℕ NotNow → Type 0
+  EntersGlobally m n (Ok epoch) =
       let tokens = plan.shape.tokens in
-      (epoch : ℕ) × (epoch < last_epoch) × ((k : ℕ) × (k < plan.shape.locales * tokens) × (record { locale = locale; number = number } ≡ nth_token tokens k) × ((words : List (Look WordName)) × IsStopped tokens epoch k word words
-      × GoesTo (manager_terms K) (PastOpens opens) (PastSteps step) plan m n (epoch_read epoch ∷ words) [] (stopped (scanned tokens k (looking epoch m.0.part))) m.1))
-  LooksAndScans m n (Err LocalBusy) = ⊥
-  LooksAndScans m n (Err GlobalBusy) = ⊥
+      let all = plan.shape.locales * tokens in
+      (epoch < last_epoch) × ((words : List (Look WordName)) × ArePassed tokens epoch all words
+      × GoesAmongTo (manager_terms K) (PastOpens opens) (PastSteps step) plan m n (global_read 0 ∷ epoch_read epoch ∷ words) (entries_of_items m.0.number (Claim m.0.number true ∷ [])) (scanned tokens all (looking epoch m.0.part)) m.1)
+  EntersGlobally m n (Err fault) =
+      (words : List (Look WordName)) × (items : List Item) × IsRefusedGlobally plan.shape m.0.number fault words items
+      × ((phase : Phase) × (epoch : ℕ) × (scan : Token) × ((phase ≡ LostGlobal) ⊎ (phase ≡ LeftGlobal))
+      × GoesAmongTo (manager_terms K) (PastOpens opens) (PastSteps step) plan m n words (entries_of_items m.0.number items) (reclaimed_to phase epoch scan m.0.part) m.1)
