@@ -6,6 +6,7 @@ pub mod DeferralSteps
 pub mod ReturnSteps
 pub mod ReclaimSteps
 pub mod ScanSteps
+pub mod GlobalSteps
 pub mod Crowds
 pub mod PassClauses
 pub mod ObjectSteps

@@ -1,10 +1,10 @@
 //! How the epoch is advanced, and what may be released is released.
-ghost use Rattle.std.specs.Prelude.{◌≡◌, ◌*◌, ◌<◌};
+ghost use Rattle.std.specs.Prelude.{◌≡◌, ◌*◌, ◌<◌, []};
 ghost use Rattle.epoch_laws.specs.ReclaimSteps.{last_epoch, passes};
-ghost use Rattle.epoch_laws.specs.Seats.{WonGlobal};
+ghost use Rattle.epoch_laws.specs.Seats.{WonLocal, WonGlobal};
 ghost use Rattle.pass_table.specs.Passes.{IsSeatOf, view_of, me_of};
 ghost use Rattle.epoch_manager.specs.Managers.{plan_of, shape_of, callers_of};
-ghost use Rattle.epoch_manager.specs.Reclaiming.{IsScanning, Scans, LooksAndScans};
+ghost use Rattle.epoch_manager.specs.Reclaiming.{IsScanning, Scans, LooksAndScans, EntersGlobally};
 
 use crate::faults::NotNow;
 use crate::managers::Manager;
@@ -80,6 +80,30 @@ impl<C: Client> Manager<C> {
                 token: token.number,
                 word,
             }),
+        }
+    }
+
+    // Elects globally, looks and scans. Where that is refused it leaves the election again.
+    fn enter_globally(&self, seat: &mut TableSeat<C>) -> Result<u64, NotNow>
+        requires seat { IsSeatOf self.now.words.table seat.old }
+        requires below { (view_of seat.old).number < callers_of self.now }
+        requires won { (view_of seat.old).part.seat.phase ≡ WonLocal }
+        requires hand { (view_of seat.old).part.seat.hand ≡ [] }
+        ensures seat { IsSeatOf self.now.words.table seat.new }
+        ensures enters { EntersGlobally C.terms C.Object.opens C.Object.step (plan_of self.now) (me_of seat.old) (me_of seat.new) result }
+    {
+        let found = self.words.elect_global(seat);
+        let free = found == 0;
+        if !free {
+            return Err(NotNow::GlobalBusy);
+        }
+        let looked = self.look_and_scan(seat);
+        match looked {
+            Ok(epoch) => Ok(epoch),
+            Err(fault) => {
+                self.words.leave_global(seat);
+                Err(fault)
+            }
         }
     }
 }
