@@ -1,9 +1,6 @@
 -- What the steps of a reclaim come to from its global election to its scan.
 use Rattle.std.proofs.Common.{◌≡◌, ◌≢◌, ◌<◌, ◌*◌, ℕ, true, List, [], ◌∷◌, Ok, Err, refl, ap, sym, ◌∙◌, subst, arith, inl, inr, append-nil}
 use Rattle.pass_book.specs.declared.entries.Look.{Look}
-use Rattle.pgas_base.specs.declared.shapes.Shape.{Shape}
-use Rattle.epoch_laws.specs.declared.tokens.Token.{Token}
-use Rattle.epoch_laws.specs.declared.events.Item.{Item}
 use Rattle.epoch_laws.specs.declared.events.Item.TheVariants.{Claim, Leave as Leaves}
 use Rattle.epoch_laws.specs.declared.steps.Kind.TheVariants.{ElectGlobal, Leave}
 use Rattle.epoch_laws.specs.ReclaimSteps.{has_global, MayLeave}
@@ -57,11 +54,16 @@ module _ {C View' Call Reply State' : Type 0} (K : ClientTerms C View' Call Repl
             let all = plan.shape.locales * plan.shape.tokens in
             let words = looks.1.0 in
             let last = scanned plan.shape.tokens all (looking epoch m.0.part) in
-            let goes : Goes K opens step plan j k (epoch_read epoch ∷ words) [] last = subst (λ (p : Part View'). Goes K opens step plan j k (epoch_read epoch ∷ words) [] (scanned plan.shape.tokens all (looking epoch p))) won_so.1 looks.1.2 in
-            (looks.0, (words, looks.1.1,
-              then_among K opens step plan m j k (global_read 0 ∷ []) (epoch_read epoch ∷ words) (entries_of_items m.0.number (Claim m.0.number true ∷ [])) [] (in_phase WonGlobal m.0.part) last
-                  (as_among K opens step plan m j (global_read 0 ∷ []) (entries_of_items m.0.number (Claim m.0.number true ∷ [])) (in_phase WonGlobal m.0.part) won_so)
-                  (as_among K opens step plan j k (epoch_read epoch ∷ words) [] last goes)))
+            let goes : Goes K opens step plan j k (epoch_read epoch ∷ words) [] last = subst (λ (p : Part View'). Goes K opens step plan j k (epoch_read epoch ∷ words) [] (scanned plan.shape.tokens all (looking epoch p))) won_so.1 looks.1.2 in (
+              looks.0,
+              (
+                words,
+                looks.1.1,
+                then_among K opens step plan m j k (global_read 0 ∷ []) (epoch_read epoch ∷ words) (entries_of_items m.0.number (Claim m.0.number true ∷ [])) [] (in_phase WonGlobal m.0.part) last
+                    (as_among K opens step plan m j (global_read 0 ∷ []) (entries_of_items m.0.number (Claim m.0.number true ∷ [])) (in_phase WonGlobal m.0.part) won_so)
+                    (as_among K opens step plan j k (epoch_read epoch ∷ words) [] last goes),
+              ),
+            )
 
         module _ (fault : NotNow) (looks : LooksAndScans K opens step plan j k (Err fault)) where
           stopped_so : Goes K opens step plan j k looks.0 [] (reclaimed_to Stopped looks.2.0 looks.2.1 m.0.part)

@@ -7,6 +7,7 @@ pub mod ReturnSteps
 pub mod ReclaimSteps
 pub mod ScanSteps
 pub mod GlobalSteps
+pub mod LocalSteps
 pub mod Crowds
 pub mod PassClauses
 pub mod ObjectSteps

@@ -1,5 +1,5 @@
 -- What the steps of a reclaim leave their seat and list, and that their rows are met.
-use Rattle.std.proofs.Common.{◌≡◌, ◌≢◌, ◌==◌, ◌<◌, ◌≤◌, ◌+◌, ℕ, Bool, true, false, ltb, if◌then◌else◌, List, [], ◌∷◌, Some, refl, ap, sym, ◌∙◌, subst, eq-eqb, ne_eqb}
+use Rattle.std.proofs.Common.{◌≡◌, ◌≢◌, ◌<◌, ◌+◌, ℕ, true, false, ltb, if◌then◌else◌, [], ◌∷◌, Some, refl, ap, eq-eqb, ne_eqb}
 use Rattle.std.specs.Prelude.{unwrap_or}
 use Rattle.pgas_base.specs.declared.shapes.Shape.{Shape}
 use Rattle.pgas_base.specs.Pointers.{Pointer}
@@ -7,14 +7,14 @@ use Rattle.epoch_laws.specs.declared.events.EpochEvent.TheVariants.{Freed}
 use Rattle.epoch_laws.specs.declared.events.Item.TheVariants.{Claim, Advance as Advances, Leave as Leaves}
 use Rattle.epoch_laws.specs.declared.steps.Kind.TheVariants.{ElectLocal, ElectGlobal, EpochLook, Advance, Spread, Collect, Walk, Release, Leave}
 use Rattle.epoch_laws.specs.Needs.{event}
-use Rattle.epoch_laws.specs.Places.{Place, place_of, place_in, is_among, without}
-use Rattle.epoch_laws.specs.ReclaimSteps.{elect_local, elect_global, epoch_look, advance, spread, collect, walk, release, leave, IsBetweenLists, IsDone, MayLeave, has_global, last_epoch, last_count}
+use Rattle.epoch_laws.specs.Places.{place_of, place_in, is_among, without}
+use Rattle.epoch_laws.specs.ReclaimSteps.{elect_local, elect_global, epoch_look, advance, spread, collect, walk, release, leave, IsBetweenLists, MayLeave, has_global, last_epoch, last_count}
 use Rattle.epoch_laws.specs.Seats.{Seat, Phase, Registered, WonLocal, LostGlobal, WonGlobal, Scanning, Stopped, Advanced, LeftGlobal}
 use Rattle.epoch_laws.specs.States.{IsPlace}
 use Rattle.epoch_laws.specs.Steps.{move}
 use Rattle.epoch_laws.proofs.Updates.{number_here}
 use Rattle.epoch_table.specs.Facts.{Facts, count_of}
-use Rattle.epoch_table.specs.Knowledge.{Row, Told, tells}
+use Rattle.epoch_table.specs.Knowledge.{Row, tells}
 
 -- where a look at the epoch leaves the seat
 abbrev pub looked_phase : ℕ → Phase

@@ -3,7 +3,6 @@ use Rattle.std.proofs.Common.{◌≡◌, ◌≢◌, ◌⊎◌, ◌<◌, ◌≤�
 use Rattle.std.proofs.Math.Nat.{div-add-mod}
 use Rattle.std.proofs.lemmas.Bool.{cases_Bool, ltb-true}
 use Rattle.std.proofs.lemmas.Nat.{div-mul-add, mod-mul-add}
-use Rattle.pass_book.specs.declared.entries.Entry.{Entry}
 use Rattle.pass_book.specs.declared.entries.Look.{Look}
 use Rattle.pgas_base.specs.declared.shapes.Shape.{Shape}
 use Rattle.epoch_laws.specs.declared.tokens.Token.{Token}
@@ -14,7 +13,6 @@ use Rattle.epoch_laws.specs.Steps.{move}
 use Rattle.epoch_laws.specs.Words.{WordName, token}
 use Rattle.epoch_laws.proofs.Updates.{number_here}
 use Rattle.pass_table.proofs.Lists.{in_order_more}
-use Rattle.epoch_table.specs.declared.events.Happens.{Happens}
 use Rattle.epoch_table.specs.declared.parts.Plan.{Plan}
 use Rattle.epoch_table.specs.declared.parts.Part.{Part}
 use Rattle.epoch_table.specs.Clients.{ClientTerms}
@@ -23,7 +21,7 @@ use Rattle.epoch_table.specs.Kinds.{MayMake, Makes}
 use Rattle.epoch_table.specs.Knowledge.{Row, tells}
 use Rattle.epoch_manager.specs.declared.faults.NotNow.TheVariants.{EpochsSpent, Held}
 use Rattle.epoch_manager.specs.declared.reclaims.Stop.{Stop}
-use Rattle.epoch_manager.specs.Reclaiming.{nth_token, ArePassed, IsStopped, IsScanning, scanned, epoch_read, looking, reclaimed_to, stopped, Scans, LooksAndScans}
+use Rattle.epoch_manager.specs.Reclaiming.{nth_token, ArePassed, IsScanning, scanned, epoch_read, looking, reclaimed_to, stopped, Scans, LooksAndScans}
 use Rattle.epoch_manager.specs.Tokens.{token_read}
 use Rattle.epoch_manager.proofs.Known.{ltb_so}
 use Rattle.epoch_manager.proofs.ReclaimSteps.{looked_phase, epoch_told, epoch_row}
@@ -234,8 +232,7 @@ module _ {C View' Call Reply State' : Type 0} (K : ClientTerms C View' Call Repl
             let words = scans.3.0 in
             let is = (looking_so ne).1 in
             let last = stopped (scanned plan.shape.tokens k (looking epoch m.0.part)) in
-            let goes : Goes K opens step plan j n words [] last = subst (λ (p : Part View'). Goes K opens step plan j n words [] (stopped (scanned plan.shape.tokens k p))) is scans.3.2 in
-            (
+            let goes : Goes K opens step plan j n words [] last = subst (λ (p : Part View'). Goes K opens step plan j n words [] (stopped (scanned plan.shape.tokens k p))) is scans.3.2 in (
               epoch_read epoch ∷ words,
               (epoch, low_epoch ne, (k, scans.1, scans.2, (words, refl, scans.3.1))),
               (epoch, nth_token plan.shape.tokens k, then_goes K opens step plan m j n (epoch_read epoch ∷ []) words [] (looking epoch m.0.part) last (looking_so ne) goes),

@@ -7,8 +7,8 @@ use Rattle.epoch_laws.specs.declared.tokens.Token.{Token}
 use Rattle.epoch_laws.specs.declared.events.Item.{Item}
 use Rattle.epoch_laws.specs.declared.events.Item.TheVariants.{Claim, Leave}
 use Rattle.epoch_laws.specs.ReclaimSteps.{last_epoch, passes}
-use Rattle.epoch_laws.specs.Seats.{Phase, Scanning, Stopped, LostGlobal, LeftGlobal}
-use Rattle.epoch_laws.specs.Words.{WordName, global_epoch, global_election, token}
+use Rattle.epoch_laws.specs.Seats.{Phase, Registered, Scanning, Stopped, LostGlobal, LeftGlobal}
+use Rattle.epoch_laws.specs.Words.{WordName, global_epoch, global_election, local_election, token}
 use Rattle.pass_table.specs.declared.views.View.{View}
 use Rattle.pass_table.specs.Steps.{GoesTo, GoesAmongTo}
 use Rattle.epoch_table.specs.declared.events.Happens.{Happens}
@@ -82,6 +82,16 @@ IsRefusedGlobally shape c fault words items = (rest : List (Look WordName)) × I
 abbrev pub stopped : {View' : Type 0} → Part View' → Part View'
 stopped part = record part { seat = record part.seat { phase = Stopped } }
 
+-- the election of a locale was read as this
+abbrev pub local_read : ℕ → ℕ → Look WordName
+local_read locale word = record { name = local_election locale; word = word }
+
+-- the words and items of a refused reclaim of this locale
+abbrev pub IsRefused : Shape → ℕ → ℕ → NotNow → List (Look WordName) → List Item → Type 0
+IsRefused shape c locale LocalBusy words items = (word : ℕ) × (word ≢ 0) × (words ≡ local_read locale word ∷ []) × (items ≡ [])
+IsRefused shape c locale fault words items =
+    (rest : List (Look WordName)) × (between : List Item) × IsRefusedGlobally shape c fault rest between × (words ≡ local_read locale 0 ∷ rest) × (items ≡ Claim c false ∷ (between ++ Leave c false ∷ []))
+
 module _ {C View' Call Reply State' : Type 0} (K : ClientTerms C View' Call Reply State') (opens : State' → Type 0) (step : State' → Call → Reply → State' → Type 0) (plan : Plan C) where
   -- what a scan does to its caller's seat
   abbrev pub Scans : ℕ → Me (Unit {0}) (View (Happens Call Reply) (Unit {0}) (Plan C) (Part View') WordName) → Me (Unit {0}) (View (Happens Call Reply) (Unit {0}) (Plan C) (Part View') WordName) → Option Stop → Type 0
@@ -115,3 +125,15 @@ module _ {C View' Call Reply State' : Type 0} (K : ClientTerms C View' Call Repl
       (words : List (Look WordName)) × (items : List Item) × IsRefusedGlobally plan.shape m.0.number fault words items
       × ((phase : Phase) × (epoch : ℕ) × (scan : Token) × ((phase ≡ LostGlobal) ⊎ (phase ≡ LeftGlobal))
       × GoesAmongTo (manager_terms K) (PastOpens opens) (PastSteps step) plan m n words (entries_of_items m.0.number items) (reclaimed_to phase epoch scan m.0.part) m.1)
+
+  -- what both elections, a look at the epoch and a scan of the tokens do to it
+  abbrev pub EntersReclaim : Me (Unit {0}) (View (Happens Call Reply) (Unit {0}) (Plan C) (Part View') WordName) → Me (Unit {0}) (View (Happens Call Reply) (Unit {0}) (Plan C) (Part View') WordName) → Result ℕ NotNow → Type 0
+  EntersReclaim m n (Ok epoch) =
+      let tokens = plan.shape.tokens in
+      let all = plan.shape.locales * tokens in
+      (epoch < last_epoch) × ((words : List (Look WordName)) × ArePassed tokens epoch all words
+      × GoesAmongTo (manager_terms K) (PastOpens opens) (PastSteps step) plan m n (local_read m.0.part.seat.token.locale 0 ∷ global_read 0 ∷ epoch_read epoch ∷ words)
+      (entries_of_items m.0.number (Claim m.0.number false ∷ Claim m.0.number true ∷ [])) (scanned tokens all (looking epoch m.0.part)) m.1)
+  EntersReclaim m n (Err fault) =
+      (words : List (Look WordName)) × (items : List Item) × IsRefused plan.shape m.0.number m.0.part.seat.token.locale fault words items
+      × ((epoch : ℕ) × (scan : Token) × GoesAmongTo (manager_terms K) (PastOpens opens) (PastSteps step) plan m n words (entries_of_items m.0.number items) (reclaimed_to Registered epoch scan m.0.part) m.1)

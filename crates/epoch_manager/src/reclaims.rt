@@ -1,10 +1,10 @@
 //! How the epoch is advanced, and what may be released is released.
 ghost use Rattle.std.specs.Prelude.{◌≡◌, ◌*◌, ◌<◌, []};
 ghost use Rattle.epoch_laws.specs.ReclaimSteps.{last_epoch, passes};
-ghost use Rattle.epoch_laws.specs.Seats.{WonLocal, WonGlobal};
+ghost use Rattle.epoch_laws.specs.Seats.{Registered as IsRegistered, WonLocal, WonGlobal};
 ghost use Rattle.pass_table.specs.Passes.{IsSeatOf, view_of, me_of};
 ghost use Rattle.epoch_manager.specs.Managers.{plan_of, shape_of, callers_of};
-ghost use Rattle.epoch_manager.specs.Reclaiming.{IsScanning, Scans, LooksAndScans, EntersGlobally};
+ghost use Rattle.epoch_manager.specs.Reclaiming.{IsScanning, Scans, LooksAndScans, EntersGlobally, EntersReclaim};
 
 use crate::faults::NotNow;
 use crate::managers::Manager;
@@ -102,6 +102,32 @@ impl<C: Client> Manager<C> {
             Ok(epoch) => Ok(epoch),
             Err(fault) => {
                 self.words.leave_global(seat);
+                Err(fault)
+            }
+        }
+    }
+
+    // Elects in the seat's locale and globally, looks and scans. Where that is refused it leaves what it has won.
+    fn enter(&self, seat: &mut TableSeat<C>, locale: u8) -> Result<u64, NotNow>
+        requires seat { IsSeatOf self.now.words.table seat.old }
+        requires below { (view_of seat.old).number < callers_of self.now }
+        requires registered { (view_of seat.old).part.seat.phase ≡ IsRegistered }
+        requires locale { (locale ≡ (view_of seat.old).part.seat.token.locale) × (locale < (shape_of self.now).locales) }
+        requires hand { (view_of seat.old).part.seat.hand ≡ [] }
+        requires allowed { C.terms.may_reclaim (view_of seat.old).part.client (view_of seat.old).part.seat.owned }
+        ensures seat { IsSeatOf self.now.words.table seat.new }
+        ensures enters { EntersReclaim C.terms C.Object.opens C.Object.step (plan_of self.now) (me_of seat.old) (me_of seat.new) result }
+    {
+        let found = self.words.elect_local(seat, locale);
+        let free = found == 0;
+        if !free {
+            return Err(NotNow::LocalBusy);
+        }
+        let entered = self.enter_globally(seat);
+        match entered {
+            Ok(epoch) => Ok(epoch),
+            Err(fault) => {
+                self.words.leave_local(seat, locale);
                 Err(fault)
             }
         }

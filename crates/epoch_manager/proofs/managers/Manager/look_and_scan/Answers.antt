@@ -1,8 +1,7 @@
-use Rattle.std.proofs.Common.{◌≡◌, ◌≢◌, ◌∙◌, sym, ap, subst, arith, Some, None}
+use Rattle.std.proofs.Common.{◌≢◌, arith}
 use Rattle.epoch_laws.specs.ReclaimSteps.{last_epoch}
 use Rattle.pass_table.specs.Passes.{me_of}
 use Rattle.epoch_manager.specs.Managers.{plan_of}
-use Rattle.epoch_manager.specs.Reclaiming.{Scans}
 use Rattle.epoch_manager.proofs.ScanSteps.{may_look, low_epoch, spent_so, scanning_so, below_so, passed_so, held_so}
 use Rattle.epoch_manager.proofs.managers.Manager.look_and_scan.Goals as goal
 

@@ -1,6 +1,5 @@
-use Rattle.std.proofs.Common.{◌≡◌, ◌∙◌, ◌<◌, ◌≤◌, ◌*◌, subst, sym, ap, arith, refl}
+use Rattle.std.proofs.Common.{◌∙◌, ◌<◌, ◌≤◌, ◌*◌, subst, sym, ap, arith, refl}
 use Rattle.std.proofs.lemmas.Nat.{div_below, mul-le}
-use Rattle.epoch_laws.specs.ReclaimSteps.{passes}
 use Rattle.pass_table.specs.Passes.{me_of}
 use Rattle.epoch_manager.specs.Managers.{plan_of}
 use Rattle.epoch_manager.specs.Reclaiming.{nth_token}
