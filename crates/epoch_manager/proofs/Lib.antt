@@ -8,6 +8,7 @@ pub mod ReclaimSteps
 pub mod ScanSteps
 pub mod GlobalSteps
 pub mod LocalSteps
+pub mod AdvanceSteps
 pub mod Crowds
 pub mod PassClauses
 pub mod ObjectSteps

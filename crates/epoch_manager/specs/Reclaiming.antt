@@ -5,9 +5,9 @@ use Rattle.pass_book.specs.declared.entries.Look.{Look}
 use Rattle.pgas_base.specs.declared.shapes.Shape.{Shape}
 use Rattle.epoch_laws.specs.declared.tokens.Token.{Token}
 use Rattle.epoch_laws.specs.declared.events.Item.{Item}
-use Rattle.epoch_laws.specs.declared.events.Item.TheVariants.{Claim, Leave}
+use Rattle.epoch_laws.specs.declared.events.Item.TheVariants.{Claim, Leave, Advance as Advances}
 use Rattle.epoch_laws.specs.ReclaimSteps.{last_epoch, passes}
-use Rattle.epoch_laws.specs.Seats.{Phase, Registered, Scanning, Stopped, LostGlobal, LeftGlobal}
+use Rattle.epoch_laws.specs.Seats.{Phase, Registered, Advanced, Scanning, Stopped, LostGlobal, LeftGlobal}
 use Rattle.epoch_laws.specs.Words.{WordName, global_epoch, global_election, local_election, token}
 use Rattle.pass_table.specs.declared.views.View.{View}
 use Rattle.pass_table.specs.Steps.{GoesTo, GoesAmongTo}
@@ -82,6 +82,16 @@ IsRefusedGlobally shape c fault words items = (rest : List (Look WordName)) × I
 abbrev pub stopped : {View' : Type 0} → Part View' → Part View'
 stopped part = record part { seat = record part.seat { phase = Stopped } }
 
+-- it has scanned all tokens, with this epoch
+pub record HasScanned {View' : Type 0} (locales epoch : ℕ) (part : Part View') : Type 0 where
+  pub phase : part.seat.phase ≡ Scanning
+  pub read : part.seat.reclaim.epoch ≡ epoch
+  pub all : part.seat.reclaim.scan.locale ≡ locales
+
+-- the epoch is advanced, and spread to so many locales
+abbrev pub advanced : {View' : Type 0} → ℕ → Part View' → Part View'
+advanced spread part = record part { seat = record part.seat { phase = Advanced; reclaim = record part.seat.reclaim { spread = spread; collected = 0; chain = 0; walked = [] } } }
+
 -- the election of a locale was read as this
 abbrev pub local_read : ℕ → ℕ → Look WordName
 local_read locale word = record { name = local_election locale; word = word }
@@ -137,3 +147,8 @@ module _ {C View' Call Reply State' : Type 0} (K : ClientTerms C View' Call Repl
   EntersReclaim m n (Err fault) =
       (words : List (Look WordName)) × (items : List Item) × IsRefused plan.shape m.0.number m.0.part.seat.token.locale fault words items
       × ((epoch : ℕ) × (scan : Token) × GoesAmongTo (manager_terms K) (PastOpens opens) (PastSteps step) plan m n words (entries_of_items m.0.number items) (reclaimed_to Registered epoch scan m.0.part) m.1)
+
+  -- what an advance to this epoch and its spread to so many locales do to it
+  abbrev pub AdvancesTo : ℕ → ℕ → Me (Unit {0}) (View (Happens Call Reply) (Unit {0}) (Plan C) (Part View') WordName) → Me (Unit {0}) (View (Happens Call Reply) (Unit {0}) (Plan C) (Part View') WordName) → Type 0
+  AdvancesTo epoch spread m n =
+      GoesAmongTo (manager_terms K) (PastOpens opens) (PastSteps step) plan m n [] (entries_of_items m.0.number (Advances m.0.number epoch ∷ [])) (advanced spread m.0.part) m.1

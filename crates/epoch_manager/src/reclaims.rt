@@ -1,10 +1,10 @@
 //! How the epoch is advanced, and what may be released is released.
-ghost use Rattle.std.specs.Prelude.{◌≡◌, ◌*◌, ◌<◌, []};
+ghost use Rattle.std.specs.Prelude.{◌≡◌, ◌+◌, ◌*◌, ◌<◌, []};
 ghost use Rattle.epoch_laws.specs.ReclaimSteps.{last_epoch, passes};
 ghost use Rattle.epoch_laws.specs.Seats.{Registered as IsRegistered, WonLocal, WonGlobal};
 ghost use Rattle.pass_table.specs.Passes.{IsSeatOf, view_of, me_of};
 ghost use Rattle.epoch_manager.specs.Managers.{plan_of, shape_of, callers_of};
-ghost use Rattle.epoch_manager.specs.Reclaiming.{IsScanning, Scans, LooksAndScans, EntersGlobally, EntersReclaim};
+ghost use Rattle.epoch_manager.specs.Reclaiming.{IsScanning, HasScanned, AdvancesTo, Scans, LooksAndScans, EntersGlobally, EntersReclaim};
 
 use crate::faults::NotNow;
 use crate::managers::Manager;
@@ -130,6 +130,21 @@ impl<C: Client> Manager<C> {
                 self.words.leave_local(seat, locale);
                 Err(fault)
             }
+        }
+    }
+
+    // Advances the epoch, and spreads it to all locales.
+    fn advance_all(&self, seat: &mut TableSeat<C>, epoch: u64)
+        requires seat { IsSeatOf self.now.words.table seat.old }
+        requires below { (view_of seat.old).number < callers_of self.now }
+        requires epoch { epoch < last_epoch }
+        requires scanned { HasScanned (shape_of self.now).locales epoch (view_of seat.old).part }
+        ensures seat { IsSeatOf self.now.words.table seat.new }
+        ensures advances { AdvancesTo C.terms C.Object.opens C.Object.step (plan_of self.now) (epoch + 1) (shape_of self.now).locales (me_of seat.old) (me_of seat.new) }
+    {
+        self.words.advance(seat, epoch);
+        for locale in 0..self.shape.locales {
+            self.words.spread(seat, locale, epoch);
         }
     }
 }
