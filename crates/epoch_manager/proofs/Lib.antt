@@ -4,6 +4,12 @@ pub mod Known
 pub mod TokenSteps
 pub mod DeferralSteps
 pub mod ReturnSteps
+pub mod ReclaimSteps
+pub mod ScanSteps
+pub mod GlobalSteps
+pub mod LocalSteps
+pub mod AdvanceSteps
+pub mod Crowds
 pub mod PassClauses
 pub mod ObjectSteps
 pub mod Returned

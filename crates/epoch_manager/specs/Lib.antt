@@ -8,6 +8,7 @@ pub mod Managers
 pub mod Tokens
 pub mod Deferring
 pub mod Returning
+pub mod Reclaiming
 pub mod Opened
 pub mod Closed
 pub mod SpotCalls

@@ -20,3 +20,17 @@ pub enum OpenFault {
 #[derive(Debug, Drop, Clone, Copy, PartialEq, Eq, Error)]
 #[error("each token of the locale is registered")]
 pub struct TokensFull {}
+
+/// Why a reclaim did nothing.
+#[derive(Debug, Drop, Clone, Copy, PartialEq, Eq, Error)]
+pub enum NotNow {
+    #[error("another caller reclaims at this locale")]
+    LocalBusy,
+    #[error("another caller reclaims")]
+    GlobalBusy,
+    #[error("the epoch is the last")]
+    EpochsSpent,
+    /// This token of this locale is pinned with an older epoch, as its word says.
+    #[error("token {token} of locale {locale} has the word {word}")]
+    Held { locale: u8, token: u32, word: u64 },
+}

@@ -20,6 +20,7 @@ mod passes;
 mod phases;
 mod plain_cells;
 mod reads;
+mod reclaims;
 mod returns;
 mod spots;
 mod tokens;
