@@ -4,5 +4,9 @@ pub mod Known
 pub mod TokenSteps
 pub mod PassClauses
 pub mod ObjectSteps
+pub mod TakeRows
+pub mod Takes
+pub mod StackTakes
+pub mod HeaderTakes
 pub mod Openings
 pub mod Closings

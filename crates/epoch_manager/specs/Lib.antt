@@ -8,3 +8,5 @@ pub mod Managers
 pub mod Tokens
 pub mod Opened
 pub mod Closed
+pub mod Takes
+pub mod TakeSeats

@@ -9,6 +9,7 @@
 mod cells;
 mod closing;
 mod faults;
+mod gets;
 mod managers;
 mod notes;
 mod objects;
@@ -16,11 +17,12 @@ mod opening;
 mod passes;
 mod phases;
 mod plain_cells;
+mod taking;
 mod tokens;
 
 pub use cells::{Cells, CellsView};
 pub use closing::{Closed, ManagerBack};
-pub use faults::{OpenFault, TokensFull};
+pub use faults::{OpenFault, TakeFault, TokensFull};
 pub use managers::{ClientPass, Manager, Note, Pass};
 pub use phases::Phase;
 pub use plain_cells::{CellCall, PlainCells};
