@@ -8,5 +8,7 @@ pub mod TakeRows
 pub mod Takes
 pub mod StackTakes
 pub mod HeaderTakes
+pub mod HandChains
+pub mod HomeWalks
 pub mod Openings
 pub mod Closings

@@ -54,13 +54,14 @@ headers_after xs ys p is = subst IsTakenHeader (sym (headers-append xs ys p)) (g
 -- ---- items
 
 module _ {Call Reply : Type 0} where
+  one_more_in : (caller : ℕ) (call : Happens Call Reply) (xs ys zs : List (Entry (Happens Call Reply) (Unit {0}))) → items_in zs ≡ items_in xs ++ items_in ys
+      → items_in (record { caller = caller; call = call; reply = tt } ∷ zs) ≡ items_in (record { caller = caller; call = call; reply = tt } ∷ xs) ++ items_in ys
+  one_more_in caller (Lists item) xs ys zs same = ap (λ l. item ∷ l) same
+  one_more_in caller (Enters call reply) xs ys zs same = same
+
   items_in-append : (xs ys : List (Entry (Happens Call Reply) (Unit {0}))) → items_in (xs ++ ys) ≡ items_in xs ++ items_in ys
   items_in-append [] ys = refl
-  items_in-append (e ∷ xs) ys = go e.call
-    where
-      go : (call : Happens Call Reply) → items_in (record { caller = e.caller; call = call; reply = tt } ∷ (xs ++ ys)) ≡ items_in (record { caller = e.caller; call = call; reply = tt } ∷ xs) ++ items_in ys
-      go (Lists item) = ap (λ l. item ∷ l) (items_in-append xs ys)
-      go (Enters call reply) = items_in-append xs ys
+  items_in-append (e ∷ xs) ys = one_more_in e.caller e.call xs ys (xs ++ ys) (items_in-append xs ys)
 
 module _ {C View' Call Reply State' : Type 0} (K : ClientTerms C View' Call Reply State') (opens : State' → Type 0) (step : State' → Call → Reply → State' → Type 0) (plan : Plan C) where
   abbrev S : Type 0

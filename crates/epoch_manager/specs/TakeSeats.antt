@@ -149,6 +149,33 @@ module _ {C View' Call Reply State' : Type 0} (K : ClientTerms C View' Call Repl
     pub counts : (p : Place) → p ≢ place_of q → count_of n.0.part.facts p ≡ count_of m.0.part.facts p
     pub nexts : (p : Place) → p ≢ place_of q → next_word_of n.0.part.facts p ≡ next_word_of m.0.part.facts p
 
+  -- The same of the rest of a taken chain. The hand then has the first object and those from the top to the tail
+  pub record WalksRest (locale : ℕ) (first top tail : Pointer) (m n : SeatOf) : Type 0 where
+    pub rest : List Pointer
+    pub reads : (l : ℕ) → Reads l m n None
+    pub chained : IsChained plan.shape n.0.part locale first (top ∷ rest) 0
+    pub chain : n.0.part.seat.homing.chain ≡ 0
+    pub last : tail ≡ last_of top rest
+
+  -- and on the way there, where this word leads on
+  pub record WalksOn (locale : ℕ) (first top tail : Pointer) (m n : SeatOf) (word : ℕ) : Type 0 where
+    pub rest : List Pointer
+    pub reads : (l : ℕ) → Reads l m n None
+    pub chained : IsChained plan.shape n.0.part locale first (top ∷ rest) word
+    pub chain : n.0.part.seat.homing.chain ≡ word
+    pub last : tail ≡ last_of top rest
+    pub stored : word ≢ pending
+    pub leads : IsChainWord plan.shape word
+    pub local : word ≢ 0 → (place_in word).locale ≡ locale
+
+  -- the link of the current object of the chain wasn't stored yet
+  pub record Waits (m n : SeatOf) (q : Pointer) : Type 0 where
+    pub reads : (l : ℕ) → Reads l m n None
+    pub seat : n.0.part.seat ≡ m.0.part.seat
+    pub won : n.0.part.won ≡ m.0.part.won
+    pub counts : (p : Place) → p ≢ place_of q → count_of n.0.part.facts p ≡ count_of m.0.part.facts p
+    pub nexts : (p : Place) → p ≢ place_of q → next_word_of n.0.part.facts p ≡ next_word_of m.0.part.facts p
+
   -- a take of one object
   pub record TakesOne (m n : SeatOf) (q : Pointer) : Type 0 where
     pub looks : List (Look WordName)

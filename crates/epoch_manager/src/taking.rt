@@ -3,21 +3,27 @@
 //! Free objects of a locale stand in a stack (Treiber 1986), and released ones in a chain of objects that came home.
 //! A take pops from the stack, and where that is empty takes the whole chain: it keeps one object and puts the others
 //! on the stack.
-ghost use Rattle.std.specs.Prelude.{◌≡◌, ◌<◌, ◌^◌, ℕ, false};
+ghost use Rattle.std.specs.Prelude.{◌≡◌, ◌<◌, ◌^◌, ℕ, false, []};
 ghost use Rattle.pool_core.specs.Headers.{header_word};
-ghost use Rattle.epoch_laws.specs.Places.{index_in};
+ghost use Rattle.pgas_base.specs.Pointers.{IsPointer, word_of};
+ghost use Rattle.epoch_laws.specs.Places.{index_in, place_of};
+ghost use Rattle.epoch_laws.specs.States.{IsPlace};
 ghost use Rattle.epoch_laws.specs.Seats.{is_reclaiming};
 ghost use Rattle.pass_table.specs.Passes.{IsSeatOf, view_of, me_of};
 ghost use Rattle.epoch_manager.specs.Managers.{plan_of, shape_of, callers_of};
 ghost use Rattle.epoch_manager.specs.Takes.{SaysFree};
-ghost use Rattle.epoch_manager.specs.TakeSeats.{IsEmptyHanded, IsKnowing, HasOne, Gets, Scans, TakesOne};
+ghost use Rattle.epoch_manager.specs.TakeSeats.{IsEmptyHanded, IsKnowing, HasOne, IsChained, Gets, Scans, Walks, WalksRest, TakesOne};
 
 use crate::gets::Get;
 use crate::managers::Manager;
 use epoch_table::{Client, TableSeat};
+use pass_table::pause;
 use pgas_base::Ptr;
 use pool_core::{State, free_word, of_free_word};
 use std::sync::Wait;
+
+/// The next word of an object whose link wasn't stored yet.
+const PENDING: u64 = u64::MAX;
 
 /// The last count of a stack's head. No exchange is tried from there.
 const LAST_COUNT: u64 = (1 << 40) - 1;
@@ -35,7 +41,7 @@ fn index_of(word: u64) -> u32
 fn count_in(header: u64) -> u32
     ensures { (count : ℕ) → count < 2 ^ 32 → header ≡ header_word count State.Free → result ≡ count }
 {
-    (header / 8) as u32
+    (header / 8 % (1 << 32)) as u32
 }
 
 // Whether a header says free. The low three bits are the state, and free is 0.
@@ -106,5 +112,52 @@ impl<C: Client> Manager<C> {
             free = free || says_free(header);
         }
         free
+    }
+
+    // Walks over an object of the taken chain, which comes into the hand. It looks again while the link is pending.
+    fn walk<R: Wait>(&self, rt: &R, seat: &mut TableSeat<C>, ptr: Ptr) -> u64
+        requires seat { IsSeatOf self.now.words.table seat.old }
+        requires below { (view_of seat.old).number < callers_of self.now }
+        requires phase { is_reclaiming (view_of seat.old).part.seat.phase ≡ false }
+        requires place { IsPlace (shape_of self.now) (place_of ptr) }
+        requires pointer { IsPointer ptr }
+        requires chain { (view_of seat.old).part.seat.homing.chain ≡ word_of ptr }
+        ensures seat { IsSeatOf self.now.words.table seat.new }
+        ensures walks { Walks C.terms C.Object.opens C.Object.step (plan_of self.now) (me_of seat.old) (me_of seat.new) ptr result }
+    {
+        let mut yields = 1;
+        for _ in rt.forever() {
+            let next = self.words.home_walk(seat, ptr.locale(), ptr.index());
+            if next != PENDING {
+                return next;
+            }
+            yields = pause(yields);
+        }
+        unreachable!()
+    }
+
+    // Walks over what is left of the taken chain, from its next object on, and gives the last.
+    fn walk_rest<R: Wait>(&self, rt: &R, seat: &mut TableSeat<C>, first: Ptr, top: Ptr) -> Ptr
+        requires seat { IsSeatOf self.now.words.table seat.old }
+        requires below { (view_of seat.old).number < callers_of self.now }
+        requires phase { is_reclaiming (view_of seat.old).part.seat.phase ≡ false }
+        requires place { IsPlace (shape_of self.now) (place_of top) }
+        requires pointer { IsPointer top }
+        requires local { top.locale ≡ first.locale }
+        requires chain { (view_of seat.old).part.seat.homing.chain ≡ word_of top }
+        requires chained { IsChained (shape_of self.now) (view_of seat.old).part first.locale first [] (word_of top) }
+        ensures seat { IsSeatOf self.now.words.table seat.new }
+        ensures walks { WalksRest C.terms C.Object.opens C.Object.step (plan_of self.now) first.locale first top result (me_of seat.old) (me_of seat.new) }
+    {
+        let mut tail = top;
+        let mut word = self.walk(rt, seat, top);
+        for _ in rt.forever() {
+            let Some(next) = Ptr::of_word(word) else {
+                return tail;
+            };
+            word = self.walk(rt, seat, next);
+            tail = next;
+        }
+        unreachable!()
     }
 }
