@@ -1,5 +1,5 @@
 -- What a pass knows of the objects that it owns or holds, and the pointers to them.
-use Rattle.std.proofs.Common.{◌≡◌, ◌==◌, ◌&&◌, ◌<◌, ◌+◌, ℕ, Bool, true, false, ltb, List, [], ◌∷◌, Option, Some, None, map, refl, ap, sym, ◌∙◌, subst, ⊎_elim, arith}
+use Rattle.std.proofs.Common.{◌≡◌, ◌&&◌, ◌<◌, ◌+◌, ℕ, Bool, true, false, ltb, List, [], ◌∷◌, Option, Some, None, refl, ap, ◌∙◌, ⊎_elim, arith}
 use Rattle.std.specs.Prelude.{is_some, unwrap_or}
 use Rattle.std.specs.List.{All, Contains}
 use Rattle.std.proofs.lemmas.Bool.{false≢true, cases_Bool}
@@ -8,7 +8,7 @@ use Rattle.pgas_base.specs.declared.shapes.Shape.{Shape}
 use Rattle.pgas_base.specs.Pointers.{Pointer}
 use Rattle.epoch_laws.specs.Places.{Place, place_of, same_place, is_among, without}
 use Rattle.epoch_laws.specs.States.{IsPlace}
-use Rattle.epoch_laws.proofs.Lists.{among_here, among_more, among_cons}
+use Rattle.epoch_laws.proofs.Lists.{among_here, among_more}
 use Rattle.epoch_table.specs.Facts.{Facts, count_of}
 use Rattle.epoch_manager.specs.Fits.{is_place, are_known}
 use Rattle.epoch_manager.specs.Managers.{pointer_of, pointers, others}

@@ -1,5 +1,5 @@
 -- What the calls on an object of the pass's own come to.
-use Rattle.std.proofs.Common.{◌≡◌, ◌⊎◌, ◌<◌, ◌++◌, ℕ, true, false, [], Some, refl, ap, sym, ◌∙◌, subst}
+use Rattle.std.proofs.Common.{◌≡◌, ◌<◌, ℕ, true, false, [], Some, refl, ap, sym, ◌∙◌}
 use Rattle.std.specs.Prelude.{Contains}
 use Rattle.pgas_base.specs.Pointers.{Pointer}
 use Rattle.pool_core.specs.Headers.{header_word}
@@ -7,27 +7,27 @@ use Rattle.pool_core.specs.declared.headers.State.TheVariants.{Shown as ShownSta
 use Rattle.epoch_laws.specs.declared.events.EpochEvent.TheVariants.{Shown as IsShown}
 use Rattle.epoch_laws.specs.declared.steps.Kind.TheVariants.{Show}
 use Rattle.epoch_laws.specs.Needs.{event}
-use Rattle.epoch_laws.specs.Places.{Place, place_of, is_among, without}
-use Rattle.epoch_laws.specs.Seats.{Seat, Phase as SeatPhase, Idle as IsIdle, Registered as IsRegistered, Pinned as IsPinned, is_reclaiming}
+use Rattle.epoch_laws.specs.Places.{Place, place_of, without}
+use Rattle.epoch_laws.specs.Seats.{Seat, is_reclaiming}
 use Rattle.epoch_laws.proofs.Lists.{among-append_left}
 use Rattle.epoch_laws.proofs.Updates.{at_place}
 use Rattle.epoch_table.specs.declared.parts.Plan.{Plan}
 use Rattle.epoch_table.specs.declared.parts.Part.{Part}
 use Rattle.epoch_table.specs.Clients.{ClientTerms, Fills, Shows}
 use Rattle.epoch_table.specs.Facts.{Facts, count_of, facts_after}
-use Rattle.epoch_table.specs.Kinds.{entries_of_items, MayMake, Makes}
+use Rattle.epoch_table.specs.Kinds.{MayMake, Makes}
 use Rattle.epoch_table.specs.RowSteps.{MayFill, FillsRow, filled}
 use Rattle.epoch_table.specs.Rule.{is_between}
 use Rattle.epoch_table.proofs.Knowledge.{header_read}
 use Rattle.epoch_manager.specs.declared.phases.Phase.{Phase}
 use Rattle.epoch_manager.specs.declared.phases.Phase.TheVariants.{Idle, Registered, Pinned}
-use Rattle.epoch_manager.specs.Fits.{stands_as, IsKept, PassFits}
+use Rattle.epoch_manager.specs.Fits.{stands_as, PassFits}
 use Rattle.epoch_manager.specs.Managers.{pointers, others}
 use Rattle.epoch_manager.proofs.Known.{IsKnownAmong, one_of, known_but, known_agree, pointers_agree, pointers_without}
 use Rattle.epoch_manager.proofs.PassClauses.{stands_idle, stands_registered, stands_pinned, Done, done}
 use Rattle.epoch_manager.proofs.Rows.{show_row, touch_row}
 use Rattle.epoch_manager.proofs.Told.{show_told}
-use Rattle.epoch_manager.proofs.TokenSteps.{Seated, Goes, made_of, after_made}
+use Rattle.epoch_manager.proofs.TokenSteps.{Seated, made_of}
 
 -- a pass between two calls is in no reclaim
 pub rests_so : (seat : Seat) (phase : Phase) → stands_as seat phase ≡ true → (is_between seat.phase ≡ true) × (is_reclaiming seat.phase ≡ false)
