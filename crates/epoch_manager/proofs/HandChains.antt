@@ -69,7 +69,7 @@ of_last shape f locale q (r ∷ rest) each = of_last shape f locale r rest each.
 
 -- ---- the next words lead over them
 
-without_other : (p q : Place) (xs : List Place) → p ≢ q → is_among p xs ≡ true → is_among p (without q xs) ≡ true
+pub without_other : (p q : Place) (xs : List Place) → p ≢ q → is_among p xs ≡ true → is_among p (without q xs) ≡ true
 without_other p q xs ne h =
     subst (λ l. is_among p l ≡ true) (without_one q xs) (among_kept p (q ∷ []) xs (false_from_ne_true _ (λ x. ne (among_one p q x))) h)
 

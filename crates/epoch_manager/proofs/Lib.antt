@@ -10,5 +10,6 @@ pub mod StackTakes
 pub mod HeaderTakes
 pub mod HandChains
 pub mod HomeWalks
+pub mod HandHomes
 pub mod Openings
 pub mod Closings

@@ -100,6 +100,14 @@ pub record IsChained {View' : Type 0} (shape : Shape) (part : Part View') (local
   pub tail : part.seat.homing.tail ≡ None
   pub won : part.won ≡ false
 
+-- The hand has just a chain from the one object to the other, and no chain is taken
+pub record HoldsChain {View' : Type 0} (shape : Shape) (part : Part View') (first tail : Pointer) : Type 0 where
+  pub rest : List Pointer
+  pub word : ℕ
+  pub chained : IsChained shape part first.locale first rest word
+  pub chain : part.seat.homing.chain ≡ 0
+  pub last : tail ≡ last_of first rest
+
 module _ {C View' Call Reply State' : Type 0} (K : ClientTerms C View' Call Reply State') (opens : State' → Type 0) (step : State' → Call → Reply → State' → Type 0) (plan : Plan C) where
   abbrev pub SeatOf : Type 0
   SeatOf = Me (Unit {0}) (View (Happens Call Reply) (Unit {0}) (Plan C) (Part View') WordName)
@@ -175,6 +183,11 @@ module _ {C View' Call Reply State' : Type 0} (K : ClientTerms C View' Call Repl
     pub won : n.0.part.won ≡ m.0.part.won
     pub counts : (p : Place) → p ≢ place_of q → count_of n.0.part.facts p ≡ count_of m.0.part.facts p
     pub nexts : (p : Place) → p ≢ place_of q → next_word_of n.0.part.facts p ≡ next_word_of m.0.part.facts p
+
+  -- the chain of the hand went home
+  pub record GoesHome (m n : SeatOf) : Type 0 where
+    pub reads : (l : ℕ) → Reads l m n None
+    pub empty : IsEmptyHanded n.0.part
 
   -- a take of one object
   pub record TakesOne (m n : SeatOf) (q : Pointer) : Type 0 where

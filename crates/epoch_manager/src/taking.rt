@@ -12,7 +12,7 @@ ghost use Rattle.epoch_laws.specs.Seats.{is_reclaiming};
 ghost use Rattle.pass_table.specs.Passes.{IsSeatOf, view_of, me_of};
 ghost use Rattle.epoch_manager.specs.Managers.{plan_of, shape_of, callers_of};
 ghost use Rattle.epoch_manager.specs.Takes.{SaysFree};
-ghost use Rattle.epoch_manager.specs.TakeSeats.{IsEmptyHanded, IsKnowing, HasOne, IsChained, Gets, Scans, Walks, WalksRest, TakesOne};
+ghost use Rattle.epoch_manager.specs.TakeSeats.{IsEmptyHanded, IsKnowing, HasOne, IsChained, HoldsChain, Gets, Scans, Walks, WalksRest, GoesHome, TakesOne};
 
 use crate::gets::Get;
 use crate::managers::Manager;
@@ -159,5 +159,20 @@ impl<C: Client> Manager<C> {
             tail = next;
         }
         unreachable!()
+    }
+
+    // Hands a chain of the hand home, from its first object to its last.
+    fn hand_home(&self, seat: &mut TableSeat<C>, first: Ptr, tail: Ptr)
+        requires seat { IsSeatOf self.now.words.table seat.old }
+        requires below { (view_of seat.old).number < callers_of self.now }
+        requires phase { is_reclaiming (view_of seat.old).part.seat.phase ≡ false }
+        requires chain { HoldsChain (shape_of self.now) (view_of seat.old).part first tail }
+        ensures seat { IsSeatOf self.now.words.table seat.new }
+        ensures home { GoesHome C.terms C.Object.opens C.Object.step (plan_of self.now) (me_of seat.old) (me_of seat.new) }
+    {
+        self.words.hand_link(seat, tail, PENDING);
+        let old = self.words.home_swap(seat, first, tail);
+        self.words
+            .home_link(seat, tail.locale(), tail.index(), old);
     }
 }
