@@ -11,5 +11,6 @@ pub mod HeaderTakes
 pub mod HandChains
 pub mod HomeWalks
 pub mod HandHomes
+pub mod StackPuts
 pub mod Openings
 pub mod Closings

@@ -108,6 +108,14 @@ pub record HoldsChain {View' : Type 0} (shape : Shape) (part : Part View') (firs
   pub chain : part.seat.homing.chain ≡ 0
   pub last : tail ≡ last_of first rest
 
+-- The same of a chain of an object and a rest from the top to the tail
+pub record HoldsRest {View' : Type 0} (shape : Shape) (part : Part View') (first top tail : Pointer) : Type 0 where
+  pub rest : List Pointer
+  pub word : ℕ
+  pub chained : IsChained shape part first.locale first (top ∷ rest) word
+  pub chain : part.seat.homing.chain ≡ 0
+  pub last : tail ≡ last_of top rest
+
 module _ {C View' Call Reply State' : Type 0} (K : ClientTerms C View' Call Reply State') (opens : State' → Type 0) (step : State' → Call → Reply → State' → Type 0) (plan : Plan C) where
   abbrev pub SeatOf : Type 0
   SeatOf = Me (Unit {0}) (View (Happens Call Reply) (Unit {0}) (Plan C) (Part View') WordName)

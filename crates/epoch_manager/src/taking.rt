@@ -12,7 +12,7 @@ ghost use Rattle.epoch_laws.specs.Seats.{is_reclaiming};
 ghost use Rattle.pass_table.specs.Passes.{IsSeatOf, view_of, me_of};
 ghost use Rattle.epoch_manager.specs.Managers.{plan_of, shape_of, callers_of};
 ghost use Rattle.epoch_manager.specs.Takes.{SaysFree};
-ghost use Rattle.epoch_manager.specs.TakeSeats.{IsEmptyHanded, IsKnowing, HasOne, IsChained, HoldsChain, Gets, Scans, Walks, WalksRest, GoesHome, TakesOne};
+ghost use Rattle.epoch_manager.specs.TakeSeats.{IsEmptyHanded, IsKnowing, HasOne, IsChained, HoldsChain, HoldsRest, Gets, Scans, Walks, WalksRest, GoesHome, TakesOne};
 
 use crate::gets::Get;
 use crate::managers::Manager;
@@ -35,6 +35,15 @@ fn index_of(word: u64) -> u32
     ensures bound { result < 2 ^ 24 }
 {
     (word / (1 << 32) % (1 << 24)) as u32
+}
+
+// A next word that leads to the object of the locale with this index.
+#[tactic(auto, unfolding(epoch_laws::specs::Places::index_in))]
+fn link_to(index: u32) -> u64
+    requires { index < 2 ^ 24 }
+    ensures { index_in result ≡ index }
+{
+    u64::from(index) * (1 << 32)
 }
 
 // The count of a free object, by its header. The low three bits are the state.
@@ -174,5 +183,42 @@ impl<C: Client> Manager<C> {
         let old = self.words.home_swap(seat, first, tail);
         self.words
             .home_link(seat, tail.locale(), tail.index(), old);
+    }
+
+    // Puts what is in the hand beside the first object onto their locale's stack. After each lost exchange it looks
+    // again. Where the stack's head has had its last count, all of the hand goes home.
+    fn put_rest<R: Wait>(
+        &self,
+        rt: &R,
+        seat: &mut TableSeat<C>,
+        first: Ptr,
+        top: Ptr,
+        tail: Ptr,
+    ) -> Get
+        requires seat { IsSeatOf self.now.words.table seat.old }
+        requires below { (view_of seat.old).number < callers_of self.now }
+        requires phase { is_reclaiming (view_of seat.old).part.seat.phase ≡ false }
+        requires locale { first.locale < (shape_of self.now).locales }
+        requires chain { HoldsRest (shape_of self.now) (view_of seat.old).part first top tail }
+        ensures seat { IsSeatOf self.now.words.table seat.new }
+        ensures gets { Gets C.terms C.Object.opens C.Object.step (plan_of self.now) first.locale (me_of seat.old) (me_of seat.new) result }
+    {
+        for _ in rt.forever() {
+            let head = of_free_word(self.words.stack_look(seat, first.locale()));
+            if head.count == LAST_COUNT {
+                self.hand_home(seat, first, tail);
+                return Get::Spent;
+            }
+            let below = link_to(head.index);
+            self.words.hand_link(seat, tail, below);
+            let found = self.words
+                .stack_put(seat, first.locale(), head, top, tail);
+            if found == free_word(head.count, head.index) {
+                return Get::Got {
+                    index: first.index(),
+                };
+            }
+        }
+        unreachable!()
     }
 }
