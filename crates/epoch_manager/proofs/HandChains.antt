@@ -1,14 +1,13 @@
 -- Chains of the hand, as lists of their objects.
-use Rattle.std.proofs.Common.{◌≡◌, ◌≢◌, ◌⊎◌, ◌<◌, ◌≤◌, ◌==◌, ◌&&◌, ◌+◌, ◌++◌, ◌%◌, ℕ, zero, suc, Bool, true, false, if◌then◌else◌, List, [], ◌∷◌, length, map, Option, Some, None, refl, ap, ap₂, sym, ◌∙◌, subst, inl, inr, ⊎_elim, arith, eq-eqb, length-append}
+use Rattle.std.proofs.Common.{◌≡◌, ◌≢◌, ◌<◌, ◌==◌, ◌++◌, ℕ, zero, suc, Bool, true, false, List, [], ◌∷◌, length, Some, refl, ap, sym, ◌∙◌, subst, ⊎_elim, arith, eq-eqb}
 use Rattle.std.specs.Prelude.{unwrap_or}
-use Rattle.std.proofs.lemmas.Bool.{cases_Bool, false_from_ne_true, false≢true}
+use Rattle.std.proofs.lemmas.Bool.{false_from_ne_true}
 use Rattle.pgas_base.specs.declared.shapes.Shape.{Shape}
 use Rattle.pgas_base.specs.Pointers.{Pointer, IsPointer, word_of}
 use Rattle.epoch_laws.specs.Chains.{Reaches, led, led_from, leads_into}
 use Rattle.epoch_laws.specs.Locations.{IsDistinct}
 use Rattle.epoch_laws.specs.Places.{Place, place_of, place_in, pointer_at, same_place, is_among, without, without_all}
-use Rattle.epoch_laws.specs.States.{IsPlace}
-use Rattle.epoch_laws.proofs.Lists.{among_nil, among_here, among_more, among_cons, among_one, among-append, among-append_left, among-append_right, among_kept, distinct-append, left_none, without_one}
+use Rattle.epoch_laws.proofs.Lists.{among_here, among_more, among_one, among_kept, without_one}
 use Rattle.epoch_laws.proofs.Segments.{led_ends, led_inside}
 use Rattle.epoch_laws.proofs.Updates.{same_place_tells}
 use Rattle.epoch_laws.proofs.Words.{IsSmall, place_in-word_of}

@@ -1,18 +1,14 @@
 -- Chains of the hand that go home, or onto a stack.
-use Rattle.std.proofs.Common.{◌≡◌, ◌≢◌, ◌⊎◌, ◌<◌, ◌≤◌, ◌==◌, ◌+◌, ◌++◌, ℕ, Bool, true, false, List, [], ◌∷◌, length, Option, Some, None, refl, ap, ap₂, sym, ◌∙◌, subst, inl, inr, ⊎_elim, arith, eq-eqb, length-append}
-use Rattle.std.proofs.lemmas.Bool.{false_from_ne_true}
-use Rattle.pass_book.specs.declared.entries.Look.{Look}
+use Rattle.std.proofs.Common.{◌≡◌, ◌<◌, ◌==◌, ◌+◌, ◌++◌, ℕ, Bool, true, false, List, [], ◌∷◌, length, Option, Some, None, refl, ap, sym, ◌∙◌, subst, ⊎_elim, arith, eq-eqb, length-append}
 use Rattle.pgas_base.specs.Pointers.{Pointer, word_of}
 use Rattle.epoch_laws.specs.declared.steps.Kind.TheVariants.{HandLink, HomeSwap, HomeLink}
-use Rattle.epoch_laws.specs.Chains.{Led, Reaches, IsLed, led, led_in, led_over}
-use Rattle.epoch_laws.specs.Locations.{IsDistinct}
+use Rattle.epoch_laws.specs.Chains.{Reaches, IsLed, led, led_in, led_over}
 use Rattle.epoch_laws.specs.Places.{Place, place_of, pending, is_among, without, without_all}
-use Rattle.epoch_laws.specs.Seats.{Seat, is_reclaiming}
+use Rattle.epoch_laws.specs.Seats.{is_reclaiming}
 use Rattle.epoch_laws.specs.States.{IsPlace}
-use Rattle.epoch_laws.specs.Words.{WordName, home_chain}
-use Rattle.epoch_laws.proofs.Lists.{among_none, among_here, among_more, among_cons, among_one, among-append, among-append_left, among-append_right, left_none}
-use Rattle.epoch_laws.proofs.Segments.{gone_without}
-use Rattle.epoch_laws.proofs.Updates.{place_here, place_there, same_place_tells}
+use Rattle.epoch_laws.specs.Words.{home_chain}
+use Rattle.epoch_laws.proofs.Lists.{among_here, among_more, among_cons, among_one, among-append, among-append_left, among-append_right, left_none}
+use Rattle.epoch_laws.proofs.Updates.{place_here, place_there}
 use Rattle.epoch_table.specs.declared.parts.Plan.{Plan}
 use Rattle.epoch_table.specs.declared.parts.Part.{Part}
 use Rattle.epoch_table.specs.Clients.{ClientTerms}
@@ -20,11 +16,10 @@ use Rattle.epoch_table.specs.Deeds.{tail_linked}
 use Rattle.epoch_table.specs.Facts.{Facts, count_of, next_word_of, facts_after, learned}
 use Rattle.epoch_table.specs.Kinds.{looks_of, MayMake, Makes}
 use Rattle.epoch_table.specs.Knowledge.{AreAllKnown, known_words}
-use Rattle.epoch_manager.specs.Takes.{last_header, last_head}
-use Rattle.epoch_manager.specs.TakeSeats.{Has, IsSameFor, IsEmptyHanded, SeatOf, Under, Reads, IsChained, HoldsChain, GoesHome, AreLinked, IsOfChain, AreOfChain, places, last_of}
+use Rattle.epoch_manager.specs.TakeSeats.{SeatOf, Reads, IsChained, HoldsChain, GoesHome, AreLinked, AreOfChain, places, last_of}
 use Rattle.epoch_manager.proofs.HandChains.{last_among, linked_again, each_still, of_last, leads_over, without_other}
 use Rattle.epoch_manager.proofs.TakeRows.{AreEnds, hand_link_row, home_swap_row, home_link_row, hand_link_told, home_swap_told, home_link_told}
-use Rattle.epoch_manager.proofs.Takes.{under_one, reads_then, had_still, number_still}
+use Rattle.epoch_manager.proofs.Takes.{under_one, reads_then, number_still}
 use Rattle.epoch_manager.proofs.TokenSteps.{Goes, made_of}
 
 module _ {C View' Call Reply State' : Type 0} (K : ClientTerms C View' Call Reply State') (opens : State' → Type 0) (step : State' → Call → Reply → State' → Type 0) (plan : Plan C) where

@@ -1,17 +1,15 @@
 -- Looks at headers, and an object of the hand that becomes the caller's own.
-use Rattle.std.proofs.Common.{◌≡◌, ◌≢◌, ◌⊎◌, ◌<◌, ◌≤◌, ◌==◌, ◌+◌, ◌++◌, ◌^◌, ◌/◌, ◌*◌, ℕ, Bool, true, false, if◌then◌else◌, List, [], ◌∷◌, Option, Some, None, refl, ap, ap₂, sym, ◌∙◌, subst, inl, inr, ⊎_elim, arith, eq-eqb}
-use Rattle.std.proofs.lemmas.Bool.{false≢true}
+use Rattle.std.proofs.Common.{◌≡◌, ◌≢◌, ◌<◌, ◌==◌, ◌+◌, ◌++◌, ◌^◌, ℕ, Bool, true, false, if◌then◌else◌, List, [], ◌∷◌, Some, None, refl, ap, ap₂, sym, ◌∙◌, subst, inl, inr, ⊎_elim, arith, eq-eqb}
 use prog.Atomic.{either}
 use Rattle.pass_book.specs.declared.entries.Look.{Look}
 use Rattle.pgas_base.specs.Pointers.{Pointer}
-use Rattle.pool_core.specs.declared.headers.Header.{Header}
 use Rattle.pool_core.specs.Headers.{header_word}
 use Rattle.pool_core.specs.declared.headers.State.TheVariants.{Free, Own}
 use Rattle.epoch_laws.specs.declared.events.EpochEvent.TheVariants.{Given}
 use Rattle.epoch_laws.specs.declared.steps.Kind.TheVariants.{TakeLook, TakeTry}
 use Rattle.epoch_laws.specs.Needs.{event}
-use Rattle.epoch_laws.specs.Places.{Place, place_of, same_place, is_among, without, with_place}
-use Rattle.epoch_laws.specs.Seats.{Seat, is_reclaiming}
+use Rattle.epoch_laws.specs.Places.{Place, is_among, without}
+use Rattle.epoch_laws.specs.Seats.{is_reclaiming}
 use Rattle.epoch_laws.specs.States.{IsPlace}
 use Rattle.epoch_laws.specs.TakeSteps.{is_free, is_free_with, look_count}
 use Rattle.epoch_laws.specs.Words.{WordName, header_of}
@@ -24,10 +22,10 @@ use Rattle.epoch_table.specs.Facts.{Facts, Keeps, count_of, facts_after}
 use Rattle.epoch_table.specs.Kinds.{entries_of_items, MayMake, Makes}
 use Rattle.epoch_table.specs.Numbers.{header_in}
 use Rattle.epoch_table.proofs.Knowledge.{header_read}
-use Rattle.epoch_manager.specs.Takes.{later, last_header, last_head, SaysFree, IsTakenHeader}
-use Rattle.epoch_manager.specs.TakeSeats.{Has, IsKnowing, IsSameFor, IsEmptyHanded, HasOne, SeatOf, Under, Scans, TakesOne}
+use Rattle.epoch_manager.specs.Takes.{later, last_header, SaysFree, IsTakenHeader}
+use Rattle.epoch_manager.specs.TakeSeats.{Has, IsKnowing, IsEmptyHanded, HasOne, SeatOf, Under, Scans, TakesOne}
 use Rattle.epoch_manager.proofs.TakeRows.{take_look_row, take_try_row, take_look_told, take_try_told}
-use Rattle.epoch_manager.proofs.Takes.{under_none, under_one, under_then, after_under, goes_own, had_still, headers_before, headers_after, headers-append, heads-append, number_still}
+use Rattle.epoch_manager.proofs.Takes.{under_none, under_one, under_then, after_under, goes_own, had_still, headers_before, headers_after, heads-append, number_still}
 use Rattle.epoch_manager.proofs.TokenSteps.{Goes, made_of}
 
 -- the header of a free object says so

@@ -1,6 +1,5 @@
 -- A taken chain of objects that came home is walked over.
-use Rattle.std.proofs.Common.{◌≡◌, ◌≢◌, ◌⊎◌, ◌<◌, ◌≤◌, ◌+◌, ◌++◌, ◌*◌, ◌%◌, ℕ, Bool, true, false, List, [], ◌∷◌, length, map, Option, Some, None, refl, ap, ap₂, sym, ◌∙◌, subst, inl, inr, ⊎_elim, arith, length-append}
-use Rattle.std.proofs.lemmas.Bool.{false_from_ne_true}
+use Rattle.std.proofs.Common.{◌≡◌, ◌≢◌, ◌⊎◌, ◌<◌, ◌≤◌, ◌++◌, ℕ, true, false, List, [], ◌∷◌, Some, None, refl, ap, ap₂, sym, ◌∙◌, subst, inl, inr, ⊎_elim, arith, length-append}
 use Rattle.pass_book.specs.declared.entries.Look.{Look}
 use Rattle.pgas_base.specs.declared.shapes.Shape.{Shape}
 use Rattle.pgas_base.specs.Pointers.{Pointer, IsPointer, NamesPointer, word_of}
@@ -13,18 +12,17 @@ use Rattle.epoch_laws.specs.States.{IsPlace}
 use Rattle.epoch_laws.specs.Words.{WordName, next_of}
 use Rattle.epoch_laws.proofs.Lists.{among_none, among_here, among_more, among_cons, among_one, among-append, among-append_left, among-append_right, distinct-append}
 use Rattle.epoch_laws.proofs.Updates.{place_here, place_there}
-use Rattle.epoch_laws.proofs.Words.{IsSmall, place_in-word_of, word_not_none}
+use Rattle.epoch_laws.proofs.Words.{place_in-word_of, word_not_none}
 use Rattle.epoch_table.specs.declared.parts.Plan.{Plan}
 use Rattle.epoch_table.specs.declared.parts.Part.{Part}
 use Rattle.epoch_table.specs.Clients.{ClientTerms}
 use Rattle.epoch_table.specs.Facts.{Facts, IsNew, count_of, next_word_of, facts_after}
 use Rattle.epoch_table.specs.Kinds.{MayMake, Makes}
 use Rattle.epoch_table.specs.Numbers.{count_in}
-use Rattle.epoch_manager.specs.Takes.{last_header, last_head}
-use Rattle.epoch_manager.specs.TakeSeats.{Has, IsSameFor, SeatOf, Under, Reads, Waits, Walks, WalksOn, WalksRest, IsChained, IsOfChain, places, last_of}
+use Rattle.epoch_manager.specs.TakeSeats.{Has, IsSameFor, SeatOf, Reads, Waits, Walks, WalksOn, WalksRest, IsChained, places}
 use Rattle.epoch_manager.proofs.HandChains.{small_of, places-append, last-append, linked_more, each_still, each_more}
 use Rattle.epoch_manager.proofs.TakeRows.{home_walk_row, walk_waits, walk_told}
-use Rattle.epoch_manager.proofs.Takes.{under_one, reads_none, reads_then, had_still, number_still}
+use Rattle.epoch_manager.proofs.Takes.{under_one, reads_none, reads_then, had_still}
 use Rattle.epoch_manager.proofs.TokenSteps.{Goes, made_of}
 
 count_back : (q : Pointer) → q.count < 4294967296 → count_in (word_of q) ≡ q.count

@@ -1,28 +1,28 @@
 -- The rest of a taken chain goes onto a stack.
-use Rattle.std.proofs.Common.{◌≡◌, ◌≢◌, ◌⊎◌, ◌<◌, ◌≤◌, ◌==◌, ◌+◌, ◌++◌, ℕ, Bool, true, false, List, [], ◌∷◌, length, Option, Some, None, refl, ap, ap₂, sym, ◌∙◌, subst, inl, inr, ⊎_elim, arith, eq-eqb}
+use Rattle.std.proofs.Common.{◌≡◌, ◌≢◌, ◌<◌, ◌==◌, ℕ, Bool, true, false, List, [], ◌∷◌, length, Option, Some, None, refl, ap, ap₂, sym, ◌∙◌, subst, arith, eq-eqb}
 use Rattle.pgas_base.specs.Pointers.{Pointer}
 use Rattle.pool_core.specs.FreeWords.{free_head_word, free_count, free_index}
 use Rattle.epoch_laws.specs.declared.steps.Kind.TheVariants.{StackLook, StackPut, HandLink}
-use Rattle.epoch_laws.specs.Chains.{Led, Reaches, IsLed, led, led_in, led_over}
-use Rattle.epoch_laws.specs.Places.{Place, place_of, index_in, is_among, without, without_all}
-use Rattle.epoch_laws.specs.Seats.{Seat, StackLook as Look, NoLook, Looked, is_reclaiming}
+use Rattle.epoch_laws.specs.Chains.{Reaches, IsLed, led, led_in, led_over}
+use Rattle.epoch_laws.specs.Places.{place_of, index_in, is_among, without, without_all}
+use Rattle.epoch_laws.specs.Seats.{StackLook as Look, NoLook, Looked, is_reclaiming}
 use Rattle.epoch_laws.specs.StackSteps.{same_head, last_stack_count}
-use Rattle.epoch_laws.specs.Words.{WordName, free_stack}
+use Rattle.epoch_laws.specs.Words.{free_stack}
 use Rattle.epoch_laws.proofs.Lists.{among_here, among_more}
 use Rattle.epoch_table.specs.declared.parts.Plan.{Plan}
 use Rattle.epoch_table.specs.declared.parts.Part.{Part}
 use Rattle.epoch_table.specs.Clients.{ClientTerms}
-use Rattle.epoch_table.specs.Facts.{Facts, count_of, facts_after}
+use Rattle.epoch_table.specs.Facts.{facts_after}
 use Rattle.epoch_table.specs.Heads.{won_after}
 use Rattle.epoch_table.specs.Kinds.{MayMake, Makes}
 use Rattle.epoch_table.specs.Knowledge.{known_words}
 use Rattle.epoch_table.specs.Numbers.{head_in}
-use Rattle.epoch_manager.specs.Takes.{later, is_spent, last_header, last_head, CanSpend}
-use Rattle.epoch_manager.specs.TakeSeats.{Has, IsSameFor, IsEmptyHanded, HasOne, SeatOf, Under, Reads, IsChained, HoldsChain, HoldsRest, GoesHome, places, last_of}
+use Rattle.epoch_manager.specs.Takes.{is_spent, CanSpend}
+use Rattle.epoch_manager.specs.TakeSeats.{IsSameFor, IsEmptyHanded, HasOne, SeatOf, Reads, IsChained, HoldsChain, HoldsRest, GoesHome, places, last_of}
 use Rattle.epoch_manager.proofs.HandChains.{last_among, of_last, leads_over, leaves_first, without_other}
 use Rattle.epoch_manager.proofs.HandHomes.{in_hand, hand_count, all_known, link_part, link_reads, link_chained, may_link}
 use Rattle.epoch_manager.proofs.StackTakes.{head_here, head_else, head_same, head_other, look_part, look_reads, look_can}
-use Rattle.epoch_manager.proofs.TakeRows.{AreEnds, stack_put_row, put_won, put_lost}
+use Rattle.epoch_manager.proofs.TakeRows.{stack_put_row, put_won, put_lost}
 use Rattle.epoch_manager.proofs.Takes.{under_one, reads_then, number_still, can_still}
 use Rattle.epoch_manager.proofs.TokenSteps.{Goes, made_of}
 

@@ -1,24 +1,22 @@
 -- An object that is taken from the top of a stack.
-use Rattle.std.proofs.Common.{◌≡◌, ◌≢◌, ◌⊎◌, ◌<◌, ◌≤◌, ◌==◌, ◌&&◌, ◌+◌, ◌*◌, ◌/◌, ◌%◌, ℕ, Bool, true, false, List, [], ◌∷◌, Option, Some, None, refl, ap, ap₂, sym, ◌∙◌, subst, inl, inr, ⊎_elim, arith, eq-eqb}
+use Rattle.std.proofs.Common.{◌≡◌, ◌≢◌, ◌<◌, ◌==◌, ◌&&◌, ℕ, Bool, true, false, [], ◌∷◌, Option, Some, None, refl, ap, ap₂, sym, ◌∙◌, subst, ⊎_elim, arith, eq-eqb}
 use Rattle.std.proofs.lemmas.Bool.{false_from_ne_true, false≢true, eqb-true, ne_eqb}
-use Rattle.pass_book.specs.declared.entries.Look.{Look}
-use Rattle.pool_core.specs.declared.free_words.FreeWord.{FreeWord}
 use Rattle.pool_core.specs.FreeWords.{free_head_word, free_count, free_index}
 use Rattle.epoch_laws.specs.declared.steps.Kind.TheVariants.{StackLook, StackNext, StackPop}
-use Rattle.epoch_laws.specs.Places.{Place, is_among, with_place}
-use Rattle.epoch_laws.specs.Seats.{Seat, StackLook as Look', NoLook, Looked, NextRead, is_reclaiming}
+use Rattle.epoch_laws.specs.Places.{Place, is_among}
+use Rattle.epoch_laws.specs.Seats.{StackLook as Look', NoLook, Looked, NextRead, is_reclaiming}
 use Rattle.epoch_laws.specs.StackSteps.{looked_top, same_head, last_stack_count}
 use Rattle.epoch_laws.specs.States.{IsPlace}
-use Rattle.epoch_laws.specs.Words.{WordName, free_stack, next_of}
+use Rattle.epoch_laws.specs.Words.{free_stack, next_of}
 use Rattle.epoch_laws.proofs.Updates.{place_there}
 use Rattle.epoch_table.specs.declared.parts.Plan.{Plan}
 use Rattle.epoch_table.specs.declared.parts.Part.{Part}
 use Rattle.epoch_table.specs.Clients.{ClientTerms}
-use Rattle.epoch_table.specs.Facts.{Facts, IsNew, count_of, facts_after}
+use Rattle.epoch_table.specs.Facts.{IsNew, count_of, facts_after}
 use Rattle.epoch_table.specs.Kinds.{MayMake, Makes}
 use Rattle.epoch_table.specs.Numbers.{head_in}
-use Rattle.epoch_manager.specs.Takes.{later, last_header, last_head, is_spent, CanSpend}
-use Rattle.epoch_manager.specs.TakeSeats.{Has, IsSameFor, IsEmptyHanded, HasOne, SeatOf, Under, Reads}
+use Rattle.epoch_manager.specs.Takes.{last_head, is_spent, CanSpend}
+use Rattle.epoch_manager.specs.TakeSeats.{Has, IsEmptyHanded, HasOne, SeatOf, Reads}
 use Rattle.epoch_manager.proofs.TakeRows.{stack_look_row, stack_next_row, stack_pop_row, stack_look_told, stack_next_told, pop_won, pop_lost}
 use Rattle.epoch_manager.proofs.Takes.{under_one, reads_then}
 use Rattle.epoch_manager.proofs.TokenSteps.{Goes, made_of}

@@ -1,5 +1,5 @@
 -- That the rows of the steps of a take are met, and what those leave their seat and list.
-use Rattle.std.proofs.Common.{◌≡◌, ◌≢◌, ◌<◌, ◌==◌, ◌+◌, ◌++◌, ℕ, true, false, if◌then◌else◌, [], ◌∷◌, Option, Some, None, refl, ap, eq-eqb, ne_eqb}
+use Rattle.std.proofs.Common.{◌≡◌, ◌≢◌, ◌<◌, ◌==◌, ℕ, true, false, if◌then◌else◌, [], ◌∷◌, Some, None, refl, ap, eq-eqb, ne_eqb}
 use Rattle.std.specs.Prelude.{unwrap_or}
 use Rattle.pgas_base.specs.declared.shapes.Shape.{Shape}
 use Rattle.pgas_base.specs.Pointers.{Pointer}
@@ -8,8 +8,8 @@ use Rattle.epoch_laws.specs.declared.steps.Kind.TheVariants.{TakeLook, TakeTry, 
 use Rattle.epoch_laws.specs.Chains.{IsLed, led_in, led_over}
 use Rattle.epoch_laws.specs.HomeSteps.{home_swap, home_link, home_take, home_walk}
 use Rattle.epoch_laws.specs.Needs.{event}
-use Rattle.epoch_laws.specs.Places.{Place, place_of, place_in, pointer_at, pending, index_in, is_among, with_number, without, without_all}
-use Rattle.epoch_laws.specs.Seats.{Seat, StackLook as Look, NoLook, Looked, NextRead, is_reclaiming}
+use Rattle.epoch_laws.specs.Places.{Place, place_of, place_in, pending, index_in, is_among, with_number, without, without_all}
+use Rattle.epoch_laws.specs.Seats.{Seat, NoLook, Looked, NextRead, is_reclaiming}
 use Rattle.epoch_laws.specs.StackSteps.{stack_look, stack_next, stack_pop, stack_put, hand_link, looked_top, same_head, last_stack_count}
 use Rattle.epoch_laws.specs.States.{IsPlace}
 use Rattle.epoch_laws.specs.Steps.{move}

@@ -1,12 +1,11 @@
 -- Steps of a take, one after another.
-use Rattle.std.proofs.Common.{◌≡◌, ◌≢◌, ◌⊎◌, ◌<◌, ◌≤◌, ◌+◌, ◌++◌, ◌||◌, ℕ, Bool, true, false, List, [], ◌∷◌, Option, Some, None, refl, ap, sym, ◌∙◌, subst, inl, inr, ⊎_elim, arith}
+use Rattle.std.proofs.Common.{◌≡◌, ◌⊎◌, ◌+◌, ◌++◌, ℕ, true, List, [], ◌∷◌, Option, Some, None, refl, ap, sym, ◌∙◌, subst, inl, inr, ⊎_elim, arith}
 use Rattle.std.proofs.lemmas.List.{append-nil}
 use mathlib.Core.List.{IsPrefix}
 use Rattle.pass_book.specs.declared.entries.Entry.{Entry}
 use Rattle.pass_book.specs.declared.entries.Look.{Look}
 use Rattle.pass_table.proofs.Going.{goes_begins}
 use Rattle.epoch_laws.specs.Places.{Place, is_among}
-use Rattle.epoch_laws.specs.StackSteps.{last_stack_count}
 use Rattle.epoch_laws.specs.Words.{WordName}
 use Rattle.epoch_table.specs.declared.events.Happens.{Happens}
 use Rattle.epoch_table.specs.declared.events.Happens.TheVariants.{Lists, Enters}
@@ -14,12 +13,11 @@ use Rattle.epoch_table.specs.declared.parts.Plan.{Plan}
 use Rattle.epoch_table.specs.declared.parts.Part.{Part}
 use Rattle.epoch_table.specs.Clients.{ClientTerms}
 use Rattle.epoch_table.specs.Events.{PastOpens, PastSteps, items_in}
-use Rattle.epoch_table.specs.Facts.{count_of}
 use Rattle.epoch_table.specs.Heads.{givens}
 use Rattle.epoch_table.specs.Rule.{manager_terms, is_between}
 use Rattle.epoch_table.proofs.Heads.{givens_then}
 use Rattle.epoch_manager.specs.Takes.{header_read, head_read, later, last_header, last_head, IsTakenHeader, CanSpend}
-use Rattle.epoch_manager.specs.TakeSeats.{Has, IsSameFor, IsEmptyHanded, SeatOf, Under, Reads, Misses, TakesOne}
+use Rattle.epoch_manager.specs.TakeSeats.{Has, IsSameFor, SeatOf, Under, Reads}
 use Rattle.epoch_manager.proofs.TokenSteps.{Goes, then_goes}
 
 -- ---- words

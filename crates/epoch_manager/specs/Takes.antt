@@ -1,6 +1,5 @@
 -- What a take does, and the words that are the cause of its answer.
-use Rattle.std.specs.Prelude.{◌≡◌, ◌⊎◌, ◌<◌, ◌≤◌, ◌==◌, ◌&&◌, ◌||◌, ◌+◌, ◌^◌, ℕ, Bool, true, false, if◌then◌else◌, List, [], ◌∷◌, Option, Some, None, Result, Ok, Err}
-use Rattle.atomic_table.specs.Table.{Me}
+use Rattle.std.specs.Prelude.{◌≡◌, ◌<◌, ◌≤◌, ◌==◌, ◌+◌, ◌^◌, ℕ, Bool, true, false, if◌then◌else◌, List, [], ◌∷◌, Option, Some, None, Result, Ok, Err}
 use Rattle.pass_book.specs.declared.entries.Entry.{Entry}
 use Rattle.pass_book.specs.declared.entries.Look.{Look}
 use Rattle.pgas_base.specs.declared.shapes.Shape.{Shape}
@@ -11,22 +10,14 @@ use Rattle.pool_core.specs.declared.headers.State.TheVariants.{Free}
 use Rattle.epoch_laws.specs.declared.events.EpochEvent.TheVariants.{Given}
 use Rattle.epoch_laws.specs.declared.events.Item.{Item}
 use Rattle.epoch_laws.specs.Needs.{event}
-use Rattle.epoch_laws.specs.Places.{Place, place_of, same_place, is_among}
-use Rattle.epoch_laws.specs.Seats.{Seat}
+use Rattle.epoch_laws.specs.Places.{Place, same_place}
 use Rattle.epoch_laws.specs.StackSteps.{last_stack_count}
 use Rattle.epoch_laws.specs.States.{IsPlace}
 use Rattle.epoch_laws.specs.Words.{WordName, free_stack, header_of}
-use Rattle.pass_table.specs.declared.views.View.{View}
-use Rattle.pass_table.specs.Steps.{GoesTo}
 use Rattle.epoch_table.specs.declared.events.Happens.{Happens}
 use Rattle.epoch_table.specs.declared.parts.Plan.{Plan}
-use Rattle.epoch_table.specs.declared.parts.Part.{Part}
-use Rattle.epoch_table.specs.Clients.{ClientTerms, Takes}
-use Rattle.epoch_table.specs.Events.{PastOpens, PastSteps, items_in}
-use Rattle.epoch_table.specs.Facts.{Facts, count_of}
+use Rattle.epoch_table.specs.Events.{items_in}
 use Rattle.epoch_table.specs.Heads.{givens}
-use Rattle.epoch_table.specs.Kinds.{entries_of_items}
-use Rattle.epoch_table.specs.Rule.{manager_terms}
 use Rattle.epoch_manager.specs.declared.faults.TakeFault.{TakeFault}
 use Rattle.epoch_manager.specs.declared.faults.TakeFault.TheVariants.{NoRoom, Spent}
 

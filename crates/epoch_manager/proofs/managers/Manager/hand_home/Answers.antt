@@ -1,4 +1,4 @@
-use Rattle.std.proofs.Common.{◌≡◌, ◌∙◌, ap, sym, subst, Some}
+use Rattle.std.proofs.Common.{◌∙◌, ap, sym, subst, Some}
 use Rattle.epoch_laws.specs.States.{IsPlace}
 use Rattle.epoch_laws.specs.Places.{Place, place_of}
 use Rattle.pass_table.specs.Passes.{me_of}

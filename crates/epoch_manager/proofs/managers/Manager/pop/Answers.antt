@@ -1,11 +1,11 @@
-use Rattle.std.proofs.Common.{◌≡◌, ◌∙◌, ap, sym, subst, arith, ◌<◌, None, Some}
+use Rattle.std.proofs.Common.{◌∙◌, ap, sym, subst, arith, ◌<◌, None, Some}
 use Rattle.epoch_laws.specs.Places.{index_in}
 use Rattle.epoch_laws.specs.Seats.{is_reclaiming}
 use Rattle.epoch_laws.specs.StackSteps.{looked_top}
 use Rattle.pass_table.specs.Passes.{me_of}
 use Rattle.epoch_manager.specs.Managers.{plan_of}
 use Rattle.epoch_manager.proofs.Takes.{reads_none, number_still}
-use Rattle.epoch_manager.proofs.StackTakes.{may_look, may_next, may_pop, a_reads, a_empty, a_spent, a_unspent, a_stack, b_reads, b_stack, b_empty, top_inside, d_won, d_lost}
+use Rattle.epoch_manager.proofs.StackTakes.{may_look, may_next, may_pop, a_reads, a_empty, a_spent, a_unspent, a_stack, b_reads, b_stack, b_empty, d_won, d_lost}
 use Rattle.epoch_manager.proofs.managers.Manager.pop.Goals as goal
 
 pub loop-init : goal.loop-init
