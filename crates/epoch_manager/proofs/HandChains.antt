@@ -45,18 +45,18 @@ module _ (f g : Facts) where
   pub linked_again : (p : Pointer) (ps : List Pointer) (old word : ℕ) → AreLinked f p ps old → IsDistinct (places (p ∷ ps))
       → ((x : Place) → x ≢ place_of (last_of p ps) → next_word_of g x ≡ next_word_of f x) → next_word_of g (place_of (last_of p ps)) ≡ Some word → AreLinked g p ps word
   linked_again p [] old word linked distinct agree next = next
-  linked_again p (r ∷ ps) old word linked distinct agree next =
-      (
-        agree (place_of p) (λ e. absurd (cc (distinct.0, ap (λ x. is_among x (places (r ∷ ps))) e, last_among r ps))) ∙ linked.0,
-        linked_again r ps old word linked.1 distinct.1 agree next,
-      )
+  linked_again p (r ∷ ps) old word linked distinct agree next = (
+    agree (place_of p) (λ e. absurd (cc (distinct.0, ap (λ x. is_among x (places (r ∷ ps))) e, last_among r ps))) ∙ linked.0,
+    linked_again r ps old word linked.1 distinct.1 agree next,
+  )
 
   pub each_still : (shape : Shape) (locale : ℕ) (ps : List Pointer) → AreOfChain shape f locale ps → ((x : Place) → is_among x (places ps) ≡ true → count_of g x ≡ count_of f x) → AreOfChain shape g locale ps
   each_still shape locale [] each agree = tt
   each_still shape locale (p ∷ ps) each agree =
-      let one = each.0 in
-      (record { local = one.local; pointer = one.pointer; inside = one.inside; count = agree (place_of p) (among_here (place_of p) (places ps)) ∙ one.count },
-      each_still shape locale ps each.1 (λ x h. agree x (among_more x (place_of p) (places ps) h)))
+      let one = each.0 in (
+        record { local = one.local; pointer = one.pointer; inside = one.inside; count = agree (place_of p) (among_here (place_of p) (places ps)) ∙ one.count },
+        each_still shape locale ps each.1 (λ x h. agree x (among_more x (place_of p) (places ps) h)),
+      )
 
 pub each_more : (shape : Shape) (f : Facts) (locale : ℕ) (ps : List Pointer) (q : Pointer) → AreOfChain shape f locale ps → IsOfChain shape f locale q → AreOfChain shape f locale (ps ++ q ∷ [])
 each_more shape f locale [] q each one = (one, tt)

@@ -12,5 +12,6 @@ pub mod HandChains
 pub mod HomeWalks
 pub mod HandHomes
 pub mod StackPuts
+pub mod HomeTakes
 pub mod Openings
 pub mod Closings

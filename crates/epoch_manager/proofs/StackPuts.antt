@@ -189,13 +189,13 @@ module _ {C View' Call Reply State' : Type 0} (K : ClientTerms C View' Call Repl
                 Some found,
                 put_read part goes' (record { phase = refl; token = refl; owned = refl; held = refl; reclaim = refl; client = refl; counts = λ p has. refl }),
                 subst (λ (p : Part View'). HasOne plan.shape p (place_of first)) (sym goes'.1)
-                (record {
-                  hand = refl;
-                  tail = was.tail;
-                  chain = ap (λ (p : Part View'). p.seat.homing.chain) pb_part ∙ pa_chain;
-                  inside = one.inside;
-                  others = was.others (place_of first) (among_here (place_of first) (places all));
-                }),
+                    (record {
+                      hand = refl;
+                      tail = was.tail;
+                      chain = ap (λ (p : Part View'). p.seat.homing.chain) pb_part ∙ pa_chain;
+                      inside = one.inside;
+                      others = was.others (place_of first) (among_here (place_of first) (places all));
+                    }),
               )
 
           pub p_lost : found ≢ free_head_word count index → (o : Option ℕ) × Reads K opens step plan l m d o × HoldsRest plan.shape d.0.part first top tail
@@ -210,23 +210,23 @@ module _ {C View' Call Reply State' : Type 0} (K : ClientTerms C View' Call Repl
                 Some found,
                 put_read part goes' (record { phase = refl; token = refl; owned = refl; held = refl; reclaim = refl; client = refl; counts = λ p has. refl }),
                 subst (λ (p : Part View'). HoldsRest plan.shape p first top tail) (sym goes'.1)
-                (record {
-                  rest = holds.rest;
-                  word = link;
-                  chained = record {
-                    back = was.back;
-                    hand = was.hand;
-                    count = was.count;
-                    only = was.only;
-                    all = was.all;
-                    distinct = was.distinct;
-                    linked = was.linked;
-                    each = was.each;
-                    others = was.others;
-                    tail = was.tail;
-                    won = was.won;
-                  };
-                  chain = ap (λ (p : Part View'). p.seat.homing.chain) pb_part ∙ pa_chain;
-                  last = holds.last;
-                }),
+                    (record {
+                      rest = holds.rest;
+                      word = link;
+                      chained = record {
+                        back = was.back;
+                        hand = was.hand;
+                        count = was.count;
+                        only = was.only;
+                        all = was.all;
+                        distinct = was.distinct;
+                        linked = was.linked;
+                        each = was.each;
+                        others = was.others;
+                        tail = was.tail;
+                        won = was.won;
+                      };
+                      chain = ap (λ (p : Part View'). p.seat.homing.chain) pb_part ∙ pa_chain;
+                      last = holds.last;
+                    }),
               )

@@ -181,8 +181,7 @@ impl<C: Client> Manager<C> {
     {
         self.words.hand_link(seat, tail, PENDING);
         let old = self.words.home_swap(seat, first, tail);
-        self.words
-            .home_link(seat, tail.locale(), tail.index(), old);
+        self.words.home_link(seat, tail.locale(), tail.index(), old);
     }
 
     // Puts what is in the hand beside the first object onto their locale's stack. After each lost exchange it looks
@@ -211,8 +210,7 @@ impl<C: Client> Manager<C> {
             }
             let below = link_to(head.index);
             self.words.hand_link(seat, tail, below);
-            let found = self.words
-                .stack_put(seat, first.locale(), head, top, tail);
+            let found = self.words.stack_put(seat, first.locale(), head, top, tail);
             if found == free_word(head.count, head.index) {
                 return Get::Got {
                     index: first.index(),
@@ -220,5 +218,29 @@ impl<C: Client> Manager<C> {
             }
         }
         unreachable!()
+    }
+
+    // Takes the locale's chain of objects that came home: one object stays in the hand, the others go onto the stack.
+    fn take_home<R: Wait>(&self, rt: &R, seat: &mut TableSeat<C>, locale: u8) -> Get
+        requires seat { IsSeatOf self.now.words.table seat.old }
+        requires below { (view_of seat.old).number < callers_of self.now }
+        requires locale { locale < (shape_of self.now).locales }
+        requires phase { is_reclaiming (view_of seat.old).part.seat.phase ≡ false }
+        requires empty { IsEmptyHanded (view_of seat.old).part }
+        ensures seat { IsSeatOf self.now.words.table seat.new }
+        ensures gets { Gets C.terms C.Object.opens C.Object.step (plan_of self.now) locale (me_of seat.old) (me_of seat.new) result }
+    {
+        let chain = self.words.home_take(seat, locale);
+        let Some(first) = Ptr::of_word(chain) else {
+            return Get::Empty;
+        };
+        let next = self.walk(rt, seat, first);
+        let Some(top) = Ptr::of_word(next) else {
+            return Get::Got {
+                index: first.index(),
+            };
+        };
+        let tail = self.walk_rest(rt, seat, first, top);
+        self.put_rest(rt, seat, first, top, tail)
     }
 }
