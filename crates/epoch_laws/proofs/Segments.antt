@@ -96,7 +96,7 @@ module _ (words : Words) (locale : ℕ) (ends : ℕ → Bool) (tail : Place) whe
       within : (r : Place) → is_among r xs ≡ true → is_among r left ≡ true
       within r h = ⊎_elim (λ e. ap (λ x. is_among x left) e ∙ among) (λ e. (among_without r q left e).1) (seg.members r h)
 
-  led_ends : (n : ℕ) (left : List Place) (p : Place) → same_place p tail ≡ true → ends (words.next p) ≡ true → led (suc n) words locale ends tail left p ≡ Reaches (p ∷ [])
+  pub led_ends : (n : ℕ) (left : List Place) (p : Place) → same_place p tail ≡ true → ends (words.next p) ≡ true → led (suc n) words locale ends tail left p ≡ Reaches (p ∷ [])
   unfolding led
   led_ends n left p e f =
       ap
@@ -120,7 +120,7 @@ module _ (words : Words) (locale : ℕ) (ends : ℕ → Bool) (tail : Place) whe
         ]
       ]) e ∙ ap (λ b. if b then Reaches (p ∷ []) else Breaks (words.next p)) f
 
-  led_inside : (n : ℕ) (left : List Place) (p : Place) (b : Bool) → same_place p tail ≡ false → leads_into words locale left (words.next p) ≡ b
+  pub led_inside : (n : ℕ) (left : List Place) (p : Place) (b : Bool) → same_place p tail ≡ false → leads_into words locale left (words.next p) ≡ b
       → led (suc n) words locale ends tail left p ≡ elim b as (λ _. Led) [
         | true ↦ led_from p (led n words locale ends tail (without (place_in (words.next p)) left) (place_in (words.next p)))
         | false ↦ Breaks (words.next p)

@@ -15,5 +15,14 @@ pub mod ObjectSteps
 pub mod Returned
 pub mod SpotClauses
 pub mod HoldClauses
+pub mod TakeRows
+pub mod Takes
+pub mod StackTakes
+pub mod HeaderTakes
+pub mod HandChains
+pub mod HomeWalks
+pub mod HandHomes
+pub mod StackPuts
+pub mod HomeTakes
 pub mod Openings
 pub mod Closings

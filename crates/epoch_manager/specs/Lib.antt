@@ -14,3 +14,5 @@ pub mod Closed
 pub mod SpotCalls
 pub mod HeldNumbers
 pub mod HoldCalls
+pub mod Takes
+pub mod TakeSeats

@@ -34,3 +34,14 @@ pub enum NotNow {
     #[error("token {token} of locale {locale} has the word {word}")]
     Held { locale: u8, token: u32, word: u64 },
 }
+
+/// Why no object was taken.
+#[derive(Debug, Drop, Clone, Copy, PartialEq, Eq, Error)]
+pub enum TakeFault {
+    /// No object of any locale was free when this call looked last at its header. The locale is the one asked for.
+    #[error("no object is free; locale {locale} was asked for")]
+    NoRoom { locale: u8 },
+    /// The head of a stack of free objects has had its last count, and no object was given.
+    #[error("a stack of free objects has had its last count {count}")]
+    Spent { count: u64 },
+}

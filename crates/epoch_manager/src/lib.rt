@@ -4,13 +4,15 @@
 //! There are the opening with its refusals, the calls on tokens (register, unregister, pin, unpin), those on an object
 //! that the caller owns (fill, show, give_back) or has cut out (defer_delete), holds of links, steps on the client's
 //! words and on rows (look, put, switch, trade, raise), reads, notes and the close, for any client; and `Cells`, a client
-//! whose links are a row of cells. The calls by which objects are taken and reclaimed are not there yet.
+//! whose links are a row of cells. The calls by which objects are taken and reclaimed are not there yet: of them stand the
+//! steps on one locale's stacks and chains (`taking`), and how a reclaim begins and advances (`reclaims`).
 #![tactic(auto)]
 
 mod cells;
 mod closing;
 mod deferrals;
 mod faults;
+mod gets;
 mod holds;
 mod managers;
 mod notes;
@@ -23,6 +25,7 @@ mod reads;
 mod reclaims;
 mod returns;
 mod spots;
+mod taking;
 mod tokens;
 
 pub use cells::{Cells, CellsView};
