@@ -19,8 +19,9 @@
 #include <vector>
 
 constexpr std::size_t LINE = 64;
-constexpr std::uint64_t OBJECTS = 256; // of each locale
+constexpr std::uint64_t OBJECTS = 1024; // of each locale
 constexpr std::uint64_t PER_RECLAIM = 64;
+constexpr std::uint64_t MOST_GATHERED = 32; // in a chain
 
 struct alignas(2 * LINE) Word : std::atomic<std::uint64_t> {
     Word() : std::atomic<std::uint64_t>(0) {}
@@ -29,26 +30,32 @@ struct alignas(2 * LINE) Word : std::atomic<std::uint64_t> {
 // Keeps the compiler from leaving a load out.
 inline void use(std::uint64_t value) { asm volatile("" : : "r"(value)); }
 
-// A pointer is a locale, an index and a count of 32 bits; a header is a count and a state; a stack's word is an object
-// and a count of 40 bits.
+// A pointer is a locale, an index from 1 and a count of 32 bits; a header is a count and a state; a stack's head is a count and an
+// index.
 enum State : std::uint64_t { FREE, OWN, SHOWN };
+constexpr std::uint64_t PENDING = ~0ull;
 inline std::uint64_t pointer(std::uint64_t locale, std::uint64_t index, std::uint64_t count) {
-    return (locale + 1) << 56 | index << 32 | count;
+    return locale << 56 | index << 32 | count;
 }
-inline std::uint64_t locale_of(std::uint64_t pointer) { return (pointer >> 56) - 1; }
+inline std::uint64_t locale_of(std::uint64_t pointer) { return pointer >> 56; }
 inline std::uint64_t index_of(std::uint64_t pointer) { return pointer >> 32 & 0xffffff; }
 inline std::uint64_t count_of(std::uint64_t pointer) { return pointer & 0xffffffff; }
 
+// The atomic steps of a manager's calls, where no caller stops in their midst: a token is one thread's, and has a locale of its own.
 class Steps {
     struct alignas(LINE) Object {
         std::atomic<std::uint64_t> header{FREE}, next{0};
         std::array<std::atomic<std::uint64_t>, 2> row{};
     };
     struct alignas(2 * LINE) Locale {
-        Word epoch, election, token, free;
-        std::array<Word, 3> lists;
-        std::array<Object, OBJECTS> objects;
+        Word epoch, election, token, free, home;
+        std::array<Word, 4> lists;
+        std::array<Object, OBJECTS + 1> objects;
         std::uint64_t deferrals = 0;
+    };
+    // Released objects of one home locale, on their way there.
+    struct Chain {
+        std::uint64_t top = 0, tail = 0, many = 0;
     };
     std::uint32_t threads;
     Word epoch, election, cell;
@@ -56,36 +63,67 @@ class Steps {
 
     Object &object(std::uint64_t pointer) { return locales[locale_of(pointer)].objects[index_of(pointer)]; }
 
-    // Off the stack of free objects, and owned: two loads and an exchange, a load and an exchange. 0 where it is empty.
-    std::uint64_t take(std::uint32_t locale) {
-        Locale &own = locales[locale];
+    std::uint64_t next_of(std::uint64_t pointer) {
+        for (;;) {
+            const std::uint64_t next = object(pointer).next.load();
+            if (next != PENDING) return next;
+        }
+    }
+    static std::uint64_t raised(std::uint64_t head, std::uint64_t index) { return ((head >> 24) + 1) << 24 | index; }
+
+    // Off the stack of free objects. 0 where it is empty.
+    std::uint64_t pop(Locale &own, std::uint64_t locale) {
         for (;;) {
             std::uint64_t head = own.free.load();
-            const std::uint64_t index = head >> 40;
+            const std::uint64_t index = head & 0xffffff;
             if (index == 0) return 0;
-            Object &taken = own.objects[index - 1];
-            const std::uint64_t next = taken.next.load();
-            if (!own.free.compare_exchange_strong(head, next << 40 | ((head + 1) & 0xffffffffff))) continue;
-            std::uint64_t header = taken.header.load();
-            taken.header.compare_exchange_strong(header, (header & ~3ull) | OWN);
-            return pointer(locale, index - 1, header >> 2);
+            const std::uint64_t next = own.objects[index].next.load();
+            if (own.free.compare_exchange_strong(head, raised(head, index_of(next)))) return pointer(locale, index, 0);
         }
     }
-    void give_home(std::uint64_t chain, std::uint64_t first, std::uint64_t last) {
-        Locale &home = locales[chain];
-        for (std::uint64_t head = home.free.load();;) {
-            home.objects[last].next.store(head >> 40);
-            if (home.free.compare_exchange_strong(head, (first + 1) << 40 | ((head + 1) & 0xffffffffff))) return;
+    // The first of those on their way home; the others go onto the stack. 0 where there are none.
+    std::uint64_t take_home(Locale &own) {
+        const std::uint64_t first = own.home.exchange(0);
+        if (first == 0) return 0;
+        const std::uint64_t top = next_of(first);
+        if (top == 0) return first;
+        std::uint64_t tail = top;
+        for (std::uint64_t next = next_of(tail); next != 0; next = next_of(next)) tail = next;
+        for (;;) {
+            std::uint64_t head = own.free.load();
+            object(tail).next.store((head & 0xffffff) == 0 ? 0 : pointer(locale_of(top), head & 0xffffff, 0));
+            if (own.free.compare_exchange_strong(head, raised(head, index_of(top)))) return first;
         }
     }
-    void release(std::uint64_t head) {
+    std::uint64_t take(std::uint32_t locale) {
+        Locale &own = locales[locale];
+        std::uint64_t taken = pop(own, locale);
+        if (taken == 0) taken = take_home(own);
+        if (taken == 0) return 0;
+        std::atomic<std::uint64_t> &word = object(taken).header;
+        std::uint64_t header = word.load();
+        word.compare_exchange_strong(header, (header & ~3ull) | OWN);
+        return pointer(locale, index_of(taken), header >> 2);
+    }
+    void hand_home(Chain &chain) {
+        if (chain.many == 0) return;
+        object(chain.tail).next.store(locales[locale_of(chain.top)].home.exchange(chain.top));
+        chain = Chain{};
+    }
+    void release(std::uint64_t head, std::vector<Chain> &chains) {
         while (head != 0) {
             Object &freed = object(head);
             const std::uint64_t next = freed.next.load();
-            freed.header.store((count_of(head) + 1) << 2 | FREE);
-            give_home(locale_of(head), index_of(head), index_of(head));
+            const std::uint64_t count = count_of(head) + 1;
+            freed.header.store(count << 2 | FREE);
+            Chain &chain = chains[locale_of(head)];
+            freed.next.store(chain.many == 0 ? PENDING : chain.top);
+            chain.top = pointer(locale_of(head), index_of(head), count);
+            if (chain.many == 0) chain.tail = chain.top;
+            if (++chain.many == MOST_GATHERED) hand_home(chain);
             head = next;
         }
+        for (Chain &chain : chains) hand_home(chain);
     }
     void leave(std::uint32_t locale, bool global) {
         if (global) election.store(0);
@@ -102,7 +140,8 @@ class Steps {
         }
         epoch.store(now + 1);
         for (std::uint32_t at = 0; at < threads; ++at) locales[at].epoch.store(now + 1);
-        for (std::uint32_t at = 0; at < threads; ++at) release(locales[at].lists[(now + 2) % 3].exchange(0));
+        std::vector<Chain> chains(threads);
+        for (std::uint32_t at = 0; at < threads; ++at) release(locales[at].lists[(now + 2) % 4].exchange(0), chains);
         leave(locale, true);
     }
 
@@ -113,9 +152,8 @@ class Steps {
             Locale &locale = locales[at];
             locale.epoch.store(1);
             locale.token.store(1);
-            for (std::uint64_t index = 0; index < OBJECTS; ++index)
-                locale.objects[index].next.store(index + 1 < OBJECTS ? index + 2 : 0);
-            locale.free.store(1ull << 40);
+            for (std::uint64_t index = 1; index < OBJECTS; ++index) locale.objects[index].next.store(pointer(at, index + 1, 0));
+            locale.free.store(1);
         }
         const std::uint64_t first = take(0);
         object(first).header.store(count_of(first) << 2 | SHOWN);
@@ -141,7 +179,7 @@ class Steps {
         own.token.store(own.epoch.load() + 2);
         shown.header.store(count_of(taken) << 2 | SHOWN);
         const std::uint64_t old = cell.exchange(taken);
-        Word &list = own.lists[epoch.load() % 3];
+        Word &list = own.lists[own.epoch.load() % 4];
         object(old).next.store(list.exchange(old));
         own.token.store(1);
         if (++own.deferrals % PER_RECLAIM == 0) reclaim(thread);
