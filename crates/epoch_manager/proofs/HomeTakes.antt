@@ -15,11 +15,10 @@ use Rattle.epoch_table.specs.Clients.{ClientTerms}
 use Rattle.epoch_table.specs.Kinds.{MayMake, Makes}
 use Rattle.epoch_manager.specs.declared.gets.Get.{Get}
 use Rattle.epoch_manager.specs.declared.gets.Get.TheVariants.{Got, Empty, Spent}
-use Rattle.epoch_manager.specs.Takes.{later}
 use Rattle.epoch_manager.specs.TakeSeats.{Has, IsEmptyHanded, HasOne, SeatOf, Reads, Gets, Walks, WalksRest, IsChained, HoldsRest}
 use Rattle.epoch_manager.proofs.HandChains.{small_of}
 use Rattle.epoch_manager.proofs.TakeRows.{home_take_row, home_take_told}
-use Rattle.epoch_manager.proofs.Takes.{under_one, reads_then, had_still}
+use Rattle.epoch_manager.proofs.Takes.{under_one, reads_then, gets_then, had_still}
 use Rattle.epoch_manager.proofs.TokenSteps.{Goes, made_of}
 
 module _ {C View' Call Reply State' : Type 0} (K : ClientTerms C View' Call Reply State') (opens : State' → Type 0) (step : State' → Call → Reply → State' → Type 0) (plan : Plan C) where
@@ -28,19 +27,6 @@ module _ {C View' Call Reply State' : Type 0} (K : ClientTerms C View' Call Repl
 
   pub may_take_home : (m : S) (l : ℕ) → m.0.number < plan.callers → is_reclaiming m.0.part.seat.phase ≡ false → l < plan.shape.locales → IsEmptyHanded m.0.part → MayMake K plan m.0.number (HomeTake l) m.0.part
   may_take_home m l below quiet low empty = record { row = home_take_row plan.shape plan.callers m.0.number m.0.part.seat m.0.part.facts below quiet l low empty.chain; made = tt; allowed = tt }
-
-  later_same : (head : Option ℕ) → later None head ≡ head
-  later_same None = refl
-  later_same (Some w) = refl
-
-  later_so : (l : ℕ) (m k n : S) (head : Option ℕ) → Reads K opens step plan l m k None → Reads K opens step plan l k n head → Reads K opens step plan l m n head
-  later_so l m k n head a b = subst (Reads K opens step plan l m n) (later_same head) (reads_then K opens step plan l m k n None head a b)
-
-  -- what was read before is read in all
-  pub gets_after : (l : ℕ) (m k n : S) (result : Get) → Reads K opens step plan l m k None → Gets K opens step plan l k n result → Gets K opens step plan l m n result
-  gets_after l m k n (Got i) a g = (g.0, later_so l m k n g.0 a g.1, g.2)
-  gets_after l m k n Empty a g = (g.0, later_so l m k n g.0 a g.1, g.2, g.3)
-  gets_after l m k n Spent a g = (g.0, later_so l m k n g.0 a g.1, g.2, g.3, g.4)
 
   module _ (m n : S) (l found : ℕ) (empty : IsEmptyHanded m.0.part) (makes : Makes K opens step plan (HomeTake l) m found n) where
     abbrev taken_part : Part View'
@@ -126,7 +112,7 @@ module _ {C View' Call Reply State' : Type 0} (K : ClientTerms C View' Call Repl
 
         pub rest_came : (top tail : Pointer) (r d : S) (result : Get) → WalksRest K opens step plan first.locale first top tail k r → Gets K opens step plan first.locale r d result → Gets K opens step plan l m d result
         rest_came top tail r d result walked got =
-            gets_after l m r d result (reads_then K opens step plan l m k r None None (k_reads l) (walked.reads l)) (subst (λ i. Gets K opens step plan i r d result) first_local got)
+            gets_then K opens step plan l m r d result None (reads_then K opens step plan l m k r None None (k_reads l) (walked.reads l)) refl (subst (λ i. Gets K opens step plan i r d result) first_local got)
 
         pub next_came : (top : Pointer) → IsPointer top → word_of top ≡ word → IsPlace plan.shape (place_of top) × (top.locale ≡ first.locale)
         next_came top is_top same_top =

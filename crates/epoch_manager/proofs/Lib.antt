@@ -24,5 +24,6 @@ pub mod HomeWalks
 pub mod HandHomes
 pub mod StackPuts
 pub mod HomeTakes
+pub mod Rounds
 pub mod Openings
 pub mod Closings

@@ -1,5 +1,6 @@
 -- Steps of a take, one after another.
-use Rattle.std.proofs.Common.{◌≡◌, ◌⊎◌, ◌+◌, ◌++◌, ℕ, true, List, [], ◌∷◌, Option, Some, None, refl, ap, sym, ◌∙◌, subst, inl, inr, ⊎_elim, arith}
+use Rattle.std.proofs.Common.{◌≡◌, ◌⊎◌, ◌+◌, ◌++◌, ℕ, true, false, List, [], ◌∷◌, Option, Some, None, refl, ap, sym, ◌∙◌, subst, inl, inr, ⊎_elim, arith}
+use Rattle.std.proofs.lemmas.Bool.{false≢true}
 use Rattle.std.proofs.lemmas.List.{append-nil}
 use mathlib.Core.List.{IsPrefix}
 use Rattle.pass_book.specs.declared.entries.Entry.{Entry}
@@ -16,8 +17,10 @@ use Rattle.epoch_table.specs.Events.{PastOpens, PastSteps, items_in}
 use Rattle.epoch_table.specs.Heads.{givens}
 use Rattle.epoch_table.specs.Rule.{manager_terms, is_between}
 use Rattle.epoch_table.proofs.Heads.{givens_then}
-use Rattle.epoch_manager.specs.Takes.{header_read, head_read, later, last_header, last_head, IsTakenHeader, CanSpend}
-use Rattle.epoch_manager.specs.TakeSeats.{Has, IsSameFor, SeatOf, Under, Reads}
+use Rattle.epoch_manager.specs.Takes.{header_read, head_read, later, last_header, last_head, is_spent, IsTakenHeader, CanSpend}
+use Rattle.epoch_manager.specs.declared.gets.Get.{Get}
+use Rattle.epoch_manager.specs.declared.gets.Get.TheVariants.{Got, Empty, Spent}
+use Rattle.epoch_manager.specs.TakeSeats.{Has, IsSameFor, SeatOf, Under, Reads, Gets}
 use Rattle.epoch_manager.proofs.TokenSteps.{Goes, then_goes}
 
 -- ---- words
@@ -37,6 +40,15 @@ headers-append (x ∷ xs) ys p = ap (later (header_read x p)) (headers-append xs
 pub heads-append : (xs ys : List (Look WordName)) (l : ℕ) → last_head (xs ++ ys) l ≡ later (last_head xs l) (last_head ys l)
 heads-append [] ys l = sym (later_none (last_head ys l))
 heads-append (x ∷ xs) ys l = ap (later (head_read x l)) (heads-append xs ys l) ∙ later_later (head_read x l) (last_head xs l) (last_head ys l)
+
+-- the last count isn't the later number where it is neither, and is where it is the second
+pub unspent_later : (a b : Option ℕ) → is_spent a ≡ false → is_spent b ≡ false → is_spent (later a b) ≡ false
+unspent_later a None x y = x
+unspent_later a (Some w) x y = y
+
+pub spent_later : (a b : Option ℕ) → is_spent b ≡ true → is_spent (later a b) ≡ true
+spent_later a None y = absurd (false≢true y)
+spent_later a (Some w) y = y
 
 -- what was read of an object stays, where nothing more is read of it, and where more is, that counts
 pub headers_before : (xs ys : List (Look WordName)) (p : Place) → last_header ys p ≡ None → last_header (xs ++ ys) p ≡ last_header xs p
@@ -155,3 +167,9 @@ module _ {C View' Call Reply State' : Type 0} (K : ClientTerms C View' Call Repl
     head_so = heads-append a.looks b.looks l ∙ (ap (λ h. later h (last_head b.looks l)) a.head_so ∙ ap (later x) b.head_so);
     heads = λ i ne. heads-append a.looks b.looks i ∙ (ap (λ h. later h (last_head b.looks i)) (a.heads i ne) ∙ ap (later None) (b.heads i ne));
   }
+
+  -- what getting an object comes to, after other steps that met no last count
+  pub gets_then : (l : ℕ) (m k n : S) (result : Get) (head : Option ℕ) → Reads K opens step plan l m k head → is_spent head ≡ false → Gets K opens step plan l k n result → Gets K opens step plan l m n result
+  gets_then l m k n (Got i) head a unspent g = (later head g.0, reads_then l m k n head g.0 a g.1, g.2)
+  gets_then l m k n Empty head a unspent g = (later head g.0, reads_then l m k n head g.0 a g.1, g.2, unspent_later head g.0 unspent g.3)
+  gets_then l m k n Spent head a unspent g = (later head g.0, reads_then l m k n head g.0 a g.1, g.2, spent_later head g.0 g.3, g.4)

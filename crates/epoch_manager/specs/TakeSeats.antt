@@ -1,5 +1,5 @@
 -- What the steps of a take do to its caller's seat.
-use Rattle.std.specs.Prelude.{◌≡◌, ◌≢◌, ◌⊎◌, ◌<◌, ◌≤◌, ℕ, Bool, true, false, List, [], ◌∷◌, ◌++◌, length, map, Option, Some, None}
+use Rattle.std.specs.Prelude.{◌≡◌, ◌≢◌, ◌⊎◌, ◌<◌, ◌≤◌, ◌==◌, ◌&&◌, ℕ, Bool, true, false, not, ltb, List, [], ◌∷◌, ◌++◌, length, map, Option, Some, None}
 use Rattle.atomic_table.specs.Table.{Me}
 use Rattle.pass_book.specs.declared.entries.Look.{Look}
 use Rattle.pgas_base.specs.declared.shapes.Shape.{Shape}
@@ -9,6 +9,7 @@ use Rattle.epoch_laws.specs.ChainWords.{IsChainWord}
 use Rattle.epoch_laws.specs.Locations.{IsDistinct}
 use Rattle.epoch_laws.specs.Needs.{event}
 use Rattle.epoch_laws.specs.Places.{Place, place_of, place_in, pending, is_among}
+use Rattle.epoch_laws.specs.Seats.{is_reclaiming}
 use Rattle.epoch_laws.specs.States.{IsPlace}
 use Rattle.epoch_laws.specs.Words.{WordName}
 use Rattle.pass_table.specs.declared.views.View.{View}
@@ -212,19 +213,35 @@ module _ {C View' Call Reply State' : Type 0} (K : ClientTerms C View' Call Repl
     pub count : count_of n.0.part.facts (place_of q) ≡ Some q.count
     pub counts : (p : Place) → Has m.0.part p → count_of n.0.part.facts p ≡ count_of m.0.part.facts p
 
-  -- No object of the locales from the one up to the other was got: a stack's head had the last count, or an object may be free, or else
-  -- each was read last as one that isn't
-  pub record Misses (from to : ℕ) (m n : SeatOf) (spent free : Bool) : Type 0 where
+  -- No object of these locales was got: a stack's head had the last count, or an object may be free, or else each was read last as one
+  -- that isn't
+  pub record Misses (among : ℕ → Bool) (m n : SeatOf) (spent free : Bool) : Type 0 where
     pub looks : List (Look WordName)
     pub under : Under m n looks
     pub rests : IsEmptyHanded n.0.part
-    pub spends : spent ≡ true → (l : ℕ) × (from ≤ l) × (l < to) × (is_spent (last_head looks l) ≡ true)
+    pub spends : spent ≡ true → (l : ℕ) × (among l ≡ true) × (is_spent (last_head looks l) ≡ true)
     pub can_spend : spent ≡ true → CanSpend plan n.0.seen
-    pub unspent : spent ≡ false → (l : ℕ) → from ≤ l → l < to → is_spent (last_head looks l) ≡ false
-    pub heads : (l : ℕ) → ((from ≤ l) × (l < to) → ⊥) → last_head looks l ≡ None
-    pub others : (p : Place) → ((from ≤ p.locale) × (p.locale < to) → ⊥) → last_header looks p ≡ None
-    pub taken : spent ≡ false → free ≡ false → (p : Place) → from ≤ p.locale → p.locale < to → IsPlace plan.shape p → IsTakenHeader (last_header looks p)
+    pub unspent : spent ≡ false → (l : ℕ) → is_spent (last_head looks l) ≡ false
+    pub heads : (l : ℕ) → among l ≡ false → last_head looks l ≡ None
+    pub others : (p : Place) → among p.locale ≡ false → last_header looks p ≡ None
+    pub taken : spent ≡ false → free ≡ false → (p : Place) → among p.locale ≡ true → IsPlace plan.shape p → IsTakenHeader (last_header looks p)
 
-  abbrev pub Tries : ℕ → ℕ → SeatOf → SeatOf → Tried → Type 0
-  Tries from to m n (Taken q) = TakesOne m n q
-  Tries from to m n (Missed spent free) = Misses from to m n spent free
+  abbrev pub Tries : (ℕ → Bool) → SeatOf → SeatOf → Tried → Type 0
+  Tries among m n (Taken q) = TakesOne m n q
+  Tries among m n (Missed spent free) = Misses among m n spent free
+
+  -- What a seat is before it tries locales: it is in no reclaim, has nothing under way, knows what it has, and is allowed the take
+  pub record MayTry (number : ℕ) (part : Part View') : Type 0 where
+    pub below : number < plan.callers
+    pub quiet : is_reclaiming part.seat.phase ≡ false
+    pub empty : IsEmptyHanded part
+    pub known : IsKnowing part
+    pub allowed : K.may_take part.client part.seat.owned
+
+-- the locale is this one
+abbrev pub is_one : ℕ → ℕ → Bool
+is_one l k = k == l
+
+-- it is one from the first on, and below the second
+abbrev pub is_within : ℕ → ℕ → ℕ → Bool
+is_within from to k = not (ltb k from) && ltb k to

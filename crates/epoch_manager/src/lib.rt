@@ -14,6 +14,7 @@ mod deferrals;
 mod faults;
 mod gets;
 mod holds;
+mod lending;
 mod managers;
 mod notes;
 mod objects;

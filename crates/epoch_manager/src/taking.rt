@@ -62,7 +62,7 @@ fn says_free(header: u64) -> bool
 
 impl<C: Client> Manager<C> {
     // Takes the object on top of a locale's stack into the hand. After each lost exchange it looks again.
-    fn pop<R: Wait>(&self, rt: &R, seat: &mut TableSeat<C>, locale: u8) -> Get
+    pub(crate) fn pop<R: Wait>(&self, rt: &R, seat: &mut TableSeat<C>, locale: u8) -> Get
         requires seat { IsSeatOf self.now.words.table seat.old }
         requires below { (view_of seat.old).number < callers_of self.now }
         requires locale { locale < (shape_of self.now).locales }
@@ -89,7 +89,7 @@ impl<C: Client> Manager<C> {
     }
 
     // Makes the object that is in the hand the caller's own.
-    fn own(&self, seat: &mut TableSeat<C>, locale: u8, index: u32) -> Ptr
+    pub(crate) fn own(&self, seat: &mut TableSeat<C>, locale: u8, index: u32) -> Ptr
         requires seat { IsSeatOf self.now.words.table seat.old }
         requires below { (view_of seat.old).number < callers_of self.now }
         requires phase { is_reclaiming (view_of seat.old).part.seat.phase ≡ false }
@@ -105,7 +105,7 @@ impl<C: Client> Manager<C> {
     }
 
     // Looks at the header of each object of a locale. True if one said free.
-    fn scan(&self, seat: &mut TableSeat<C>, locale: u8) -> bool
+    pub(crate) fn scan(&self, seat: &mut TableSeat<C>, locale: u8) -> bool
         requires seat { IsSeatOf self.now.words.table seat.old }
         requires below { (view_of seat.old).number < callers_of self.now }
         requires locale { locale < (shape_of self.now).locales }
@@ -221,7 +221,7 @@ impl<C: Client> Manager<C> {
     }
 
     // Takes the locale's chain of objects that came home: one object stays in the hand, the others go onto the stack.
-    fn take_home<R: Wait>(&self, rt: &R, seat: &mut TableSeat<C>, locale: u8) -> Get
+    pub(crate) fn take_home<R: Wait>(&self, rt: &R, seat: &mut TableSeat<C>, locale: u8) -> Get
         requires seat { IsSeatOf self.now.words.table seat.old }
         requires below { (view_of seat.old).number < callers_of self.now }
         requires locale { locale < (shape_of self.now).locales }
