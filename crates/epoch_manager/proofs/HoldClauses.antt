@@ -47,7 +47,7 @@ use Rattle.epoch_manager.proofs.TokenSteps.{Seated, Goes}
 -- ---- objects and their numbers
 
 -- of objects whose counts are known
-known_one : (shape : Shape) (facts : Facts) (places : List Place) → are_known shape facts places ≡ true → (p : Place) → is_among p places ≡ true → IsPlace shape p × (is_some (count_of facts p) ≡ true)
+pub known_one : (shape : Shape) (facts : Facts) (places : List Place) → are_known shape facts places ≡ true → (p : Place) → is_among p places ≡ true → IsPlace shape p × (is_some (count_of facts p) ≡ true)
 known_one shape facts [] known p h = absurd (among_nil p h)
 known_one shape facts (x ∷ places) known p h =
     let two = both (is_place shape x && is_some (count_of facts x)) (are_known shape facts places) known in

@@ -25,5 +25,6 @@ pub mod HandHomes
 pub mod StackPuts
 pub mod HomeTakes
 pub mod Rounds
+pub mod TakeCalls
 pub mod Openings
 pub mod Closings

@@ -7,16 +7,20 @@ use Rattle.epoch_laws.specs.declared.events.EpochEvent.TheVariants.{Given}
 use Rattle.epoch_laws.specs.Needs.{event}
 use Rattle.epoch_laws.specs.Places.{Place}
 use Rattle.epoch_laws.specs.Seats.{is_reclaiming}
+use Rattle.epoch_laws.specs.StackSteps.{last_stack_count}
 use Rattle.epoch_laws.specs.States.{IsPlace}
 use Rattle.epoch_laws.specs.Words.{WordName}
 use Rattle.epoch_table.specs.declared.parts.Plan.{Plan}
 use Rattle.epoch_table.specs.declared.parts.Part.{Part}
 use Rattle.epoch_table.specs.Clients.{ClientTerms, Takes}
 use Rattle.epoch_table.specs.Kinds.{entries_of_items}
+use Rattle.epoch_manager.specs.declared.faults.TakeFault.{TakeFault}
+use Rattle.epoch_manager.specs.declared.faults.TakeFault.TheVariants.{NoRoom, Spent as LastCount}
 use Rattle.epoch_manager.specs.declared.gets.Get.TheVariants.{Got, Empty, Spent}
 use Rattle.epoch_manager.specs.declared.gets.Tried.{Tried}
 use Rattle.epoch_manager.specs.declared.gets.Tried.TheVariants.{Taken, Missed}
 use Rattle.epoch_manager.specs.Takes.{later, last_header, last_head, is_spent, IsTakenHeader}
+use Rattle.epoch_manager.specs.TakeCalls.{Refuses}
 use Rattle.epoch_manager.specs.TakeSeats.{Has, IsEmptyHanded, IsKnowing, SeatOf, Under, Gets, Scans, TakesOne, Misses, Tries, MayTry, is_one, is_within}
 use Rattle.epoch_manager.proofs.HeaderTakes.{knowing_still}
 use Rattle.epoch_manager.proofs.Takes.{heads-append, headers_before, headers_after, unspent_later, spent_later, under_none, under_then, after_under, number_still, has_still, can_still}
@@ -72,6 +76,12 @@ all_locales first many low = record {
   firsts = λ k a. grind arith;
   seconds = λ k a. grind arith;
 }
+
+below_all : (l many : ℕ) → is_within 0 many l ≡ true → l < many
+below_all l many is = grind arith
+
+all_below : (l many : ℕ) → l < many → is_within 0 many l ≡ true
+all_below l many low = grind arith
 
 pub no_locale : (from l : ℕ) → is_within from from l ≡ false
 no_locale from l = grind arith
@@ -219,3 +229,23 @@ module _ {C View' Call Reply State' : Type 0} (K : ClientTerms C View' Call Repl
         known = knowing_still K opens step plan m k was.looks was.under may.known;
         allowed = subst (λ o. K.may_take k.0.part.client o) (sym same.owned) (subst (λ v. K.may_take v m.0.part.seat.owned) (sym same.client) may.allowed);
       }
+
+  -- ---- how a round ends a take
+
+  pub spent_refuses : (asked : ℕ) (m n : S) (spent free : Bool) → spent ≡ true → Misses K opens step plan (is_within 0 plan.shape.locales) m n spent free → Refuses K opens step plan asked (LastCount last_stack_count) m n
+  spent_refuses asked m n spent free is x =
+      let l = x.spends is in
+      record { looks = x.looks; under = x.under; rests = x.rests; cause = (l.0, below_all l.0 plan.shape.locales l.1, l.2); tells = refl; can_spend = λ count e. x.can_spend is }
+
+  pub no_room_refuses : (asked : ℕ) (m n : S) (spent free : Bool) → spent ≡ false → free ≡ false → Misses K opens step plan (is_within 0 plan.shape.locales) m n spent free → Refuses K opens step plan asked (NoRoom asked) m n
+  no_room_refuses asked m n spent free unspent none x = record {
+    looks = x.looks;
+    under = x.under;
+    rests = x.rests;
+    cause = record { unspent = λ l low. x.unspent unspent l; taken = λ p inside. x.taken unspent none p (all_below p.locale plan.shape.locales inside.locale) inside };
+    tells = refl;
+    can_spend = λ count e. absurd cc;
+  }
+
+  pub round_again : (among : ℕ → Bool) (m n : S) (spent free : Bool) → spent ≡ false → free ≡ true → Misses K opens step plan among m n spent free → Misses K opens step plan among m n false true
+  round_again among m n spent free unspent some x = subst (λ b. Misses K opens step plan among m n b true) unspent (subst (λ b. Misses K opens step plan among m n spent b) some x)

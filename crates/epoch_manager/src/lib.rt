@@ -31,7 +31,7 @@ mod tokens;
 
 pub use cells::{Cells, CellsView};
 pub use closing::{Closed, ManagerBack};
-pub use faults::{OpenFault, TokensFull};
+pub use faults::{OpenFault, TakeFault, TokensFull};
 pub use managers::{ClientPass, MOST_HELD, Manager, Note, Pass};
 pub use phases::Phase;
 pub use plain_cells::{CellCall, PlainCells};

@@ -26,7 +26,7 @@ use std::sync::Wait;
 const PENDING: u64 = u64::MAX;
 
 /// The last count of a stack's head. No exchange is tried from there.
-const LAST_COUNT: u64 = (1 << 40) - 1;
+pub(crate) const LAST_COUNT: u64 = (1 << 40) - 1;
 
 // The index of the object that a next word leads to, 0 where there is none.
 #[tactic(auto, unfolding(epoch_laws::specs::Places::index_in))]
