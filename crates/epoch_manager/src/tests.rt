@@ -1,14 +1,15 @@
-ghost use Rattle.std.specs.Prelude.{◌≡◌, ◌<◌, length, All, IfSome};
+ghost use Rattle.std.specs.Prelude.{◌≡◌, ◌<◌, length, All, IfSome, Contains};
 ghost use Rattle.epoch_laws.specs.declared.tokens.Token.{Token};
 ghost use Rattle.epoch_manager.specs.Opened.{AreOfOpening, IsIdlePass};
 ghost use Rattle.pgas_base.specs.declared.spots.Spot.TheVariants.{Own as OwnSpot};
 ghost use Rattle.epoch_manager.specs.Cells.{cells_terms};
-ghost use Rattle.epoch_manager.specs.Managers.{plan_of, opening_of, callers_of, pass_opening, phase_of, held_by, shape_of};
+ghost use Rattle.epoch_manager.specs.Managers.{plan_of, opening_of, callers_of, pass_opening, phase_of, owned_by, held_by, shape_of};
 
 use super::*;
 use epoch_table::Client;
 use pass_book::Object;
-use pgas_base::{Shape, ShapeFault, Spot, Start};
+use pgas_base::{Ptr, Shape, ShapeFault, Spot, Start};
+use std::sync::Wait;
 
 fn shape(tokens: u32) -> Shape
     ensures { result ≡ record { locales = 2; tokens = tokens; objects = 3; width = 2 } }
@@ -313,4 +314,132 @@ fn an_empty_cell_names_no_object(rt: HostRuntime) {
             assert_eq!(rt; look_into_a_cell(&manager, &mut pass), (None, 0, 0));
         }
     }
+}
+
+// Shows an object of the caller's own, and switches it into the first cell.
+fn put_into_a_cell(manager: &Manager<Cells>, pass: &mut Pass<Cells>, ptr: Ptr) -> u64
+    requires opening { pass_opening pass.old ≡ opening_of manager.now }
+    requires owned { Contains (owned_by pass.old) ptr }
+    requires cells { 0 < (plan_of manager.now).own }
+    ensures opening { pass_opening pass.new ≡ pass_opening pass.old }
+    ensures phase { phase_of pass.new ≡ phase_of pass.old }
+    ensures held { held_by pass.new ≡ held_by pass.old }
+{
+    let word = ptr.word();
+    manager.show(pass, ptr);
+    manager.switch(pass, first_cell(), word)
+}
+
+// Empties the first cell, and defers what stood there. Whether an object did.
+fn defer_what_a_cell_names(manager: &Manager<Cells>, pass: &mut Pass<Cells>) -> bool
+    requires opening { pass_opening pass.old ≡ opening_of manager.now }
+    requires phase { (token : Token) × (phase_of pass.old ≡ Phase.Pinned token) }
+    requires cells { 0 < (plan_of manager.now).own }
+{
+    let word = manager.switch(pass, first_cell(), 0);
+    let Some(ptr) = Ptr::of_word(word) else {
+        return false;
+    };
+    manager.defer_delete(pass, ptr);
+    true
+}
+
+// What the first cell named before an object was taken, filled and put there, what a hold then reads in its row, and whether
+// it was deferred.
+fn through_a_cell(
+    rt: &impl Wait,
+    manager: &Manager<Cells>,
+    pass: &mut Pass<Cells>,
+) -> Option<(u64, u64, u64, bool)>
+    requires opening { pass_opening pass.old ≡ opening_of manager.now }
+    requires phase { (token : Token) × (phase_of pass.old ≡ Phase.Pinned token) }
+    requires room { length (held_by pass.old) < 4 }
+    requires cells { 0 < (plan_of manager.now).own }
+    requires width { 1 < (shape_of manager.now).width }
+    requires locales { 0 < (shape_of manager.now).locales }
+{
+    let Ok(ptr) = manager.take(rt, pass, 0) else {
+        return None;
+    };
+    manager.fill(pass, ptr, 0, 7);
+    manager.fill(pass, ptr, 1, 8);
+    let before = put_into_a_cell(manager, pass, ptr);
+    let Some(held) = manager.hold(pass, first_cell()) else {
+        return None;
+    };
+    let first = manager.read(pass, held, 0);
+    let second = manager.read(pass, held, 1);
+    let deferred = defer_what_a_cell_names(manager, pass);
+    Some((before, first, second, deferred))
+}
+
+#[test]
+fn a_cell_leads_to_what_its_object_was_filled_with(rt: HostRuntime) {
+    let (manager, mut passes) = Manager::open(
+        rt.alloc(),
+        shape(1),
+        Start::usual(),
+        1,
+        Cells::new(1),
+    ).expect(&rt, "memory");
+    let Some(mut pass) = take_pass(&manager, &mut passes) else {
+        return;
+    };
+    let _ = manager.register(&mut pass, 0);
+    if let Phase::Registered { .. } = pass.phase() {
+        manager.pin(&mut pass);
+        if pass.held() < 4 {
+            let found = through_a_cell(&rt, &manager, &mut pass);
+            assert_eq!(rt; found, Some((0, 7, 8, true)));
+        }
+    }
+}
+
+// Takes of a caller that asks at locale 0, puts the object into a cell, asks there again, gives that one back, and asks at
+// locale 1 twice: the words of the objects, and the fault of the last.
+fn borrow_objects(
+    rt: &impl Wait,
+    manager: &Manager<Cells>,
+    pass: &mut Pass<Cells>,
+) -> Option<([u64; 3], Option<TakeFault>)>
+    requires opening { pass_opening pass.old ≡ opening_of manager.now }
+    requires cells { 0 < (plan_of manager.now).own }
+    requires locales { 1 < (shape_of manager.now).locales }
+{
+    let Ok(first) = manager.take(rt, pass, 0) else {
+        return None;
+    };
+    put_into_a_cell(manager, pass, first);
+    let Ok(second) = manager.take(rt, pass, 0) else {
+        return None;
+    };
+    manager.give_back(pass, second);
+    let Ok(third) = manager.take(rt, pass, 1) else {
+        return None;
+    };
+    let fault = manager.take(rt, pass, 1).err();
+    Some(([first.word(), second.word(), third.word()], fault))
+}
+
+#[test]
+fn a_locale_without_a_free_object_borrows_from_the_next(rt: HostRuntime) {
+    let small = Shape {
+        objects: 1,
+        ..shape(1)
+    };
+    let (manager, mut passes) = Manager::open(
+        rt.alloc(),
+        small,
+        Start::usual(),
+        1,
+        Cells::new(1),
+    ).expect(&rt, "memory");
+    let Some(mut pass) = take_pass(&manager, &mut passes) else {
+        return;
+    };
+    let there = Ptr::new(1, 1, 0).word();
+    let here = Ptr::new(0, 1, 0).word();
+    let full = Some(TakeFault::NoRoom { locale: 1 });
+    let borrowed = borrow_objects(&rt, &manager, &mut pass);
+    assert_eq!(rt; borrowed, Some(([here, there, there], full)));
 }
