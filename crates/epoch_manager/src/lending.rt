@@ -68,13 +68,7 @@ impl<C: Client> Manager<C> {
     }
 
     // Tries the locales from the first up to the second, by rising number.
-    fn try_range<R: Wait>(
-        &self,
-        rt: &R,
-        seat: &mut TableSeat<C>,
-        from: u8,
-        to: u8,
-    ) -> Tried
+    fn try_range<R: Wait>(&self, rt: &R, seat: &mut TableSeat<C>, from: u8, to: u8) -> Tried
         requires seat { IsSeatOf self.now.words.table seat.old }
         requires order { from ≤ to }
         requires locales { to ≤ (shape_of self.now).locales }
@@ -158,12 +152,7 @@ impl<C: Client> Manager<C> {
     /// where for each object of every locale this call looked last at a header that didn't say free, and no stack's head
     /// had its last count. `Spent` comes exactly where one had it and no object was got. It waits for others that are in
     /// the middle of a step with an object that may be free.
-    pub fn take<R: Wait>(
-        &self,
-        rt: &R,
-        pass: &mut Pass<C>,
-        locale: u8,
-    ) -> Result<Ptr, TakeFault>
+    pub fn take<R: Wait>(&self, rt: &R, pass: &mut Pass<C>, locale: u8) -> Result<Ptr, TakeFault>
         requires opening { pass_opening pass.old ≡ opening_of self.now }
         requires locale { locale < (shape_of self.now).locales }
         requires allowed { C.terms.may_take (knows pass.old) (map place_of (owned_by pass.old)) }
