@@ -228,6 +228,7 @@ module _ {C View' Call Reply State' : Type 0} (K : ClientTerms C View' Call Repl
           let all = after_under K opens step plan m k n (record { name = header_of (at_ l i); word = header } ∷ []) more (entries_of_items m.0.number (event m.0.number (Given q))) owned_part k_under goes in
           record {
             looks = record { name = header_of (at_ l i); word = header } ∷ more;
+            free = ap (later _) (header_here (at_ l i) found) ∙ ap Some is_found;
             goes = goes_own K opens step plan m n _ (entries_of_items m.0.number (event m.0.number (Given q))) owned_part all;
             phase = ap (λ (p : Part View'). p.seat.phase) part ∙ same.phase;
             token = ap (λ (p : Part View'). p.seat.token) part ∙ same.token;

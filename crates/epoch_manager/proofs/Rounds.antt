@@ -5,7 +5,7 @@ use Rattle.pass_book.specs.declared.entries.Look.{Look}
 use Rattle.pgas_base.specs.Pointers.{Pointer}
 use Rattle.epoch_laws.specs.declared.events.EpochEvent.TheVariants.{Given}
 use Rattle.epoch_laws.specs.Needs.{event}
-use Rattle.epoch_laws.specs.Places.{Place}
+use Rattle.epoch_laws.specs.Places.{Place, place_of}
 use Rattle.epoch_laws.specs.Seats.{is_reclaiming}
 use Rattle.epoch_laws.specs.StackSteps.{last_stack_count}
 use Rattle.epoch_laws.specs.States.{IsPlace}
@@ -23,7 +23,7 @@ use Rattle.epoch_manager.specs.Takes.{later, last_header, last_head, is_spent, I
 use Rattle.epoch_manager.specs.TakeCalls.{Refuses}
 use Rattle.epoch_manager.specs.TakeSeats.{Has, IsEmptyHanded, IsKnowing, SeatOf, Under, Gets, Scans, TakesOne, Misses, Tries, MayTry, is_one, is_within}
 use Rattle.epoch_manager.proofs.HeaderTakes.{knowing_still}
-use Rattle.epoch_manager.proofs.Takes.{heads-append, headers_before, headers_after, unspent_later, spent_later, under_none, under_then, after_under, number_still, has_still, can_still}
+use Rattle.epoch_manager.proofs.Takes.{headers-append, heads-append, headers_before, headers_after, unspent_later, spent_later, under_none, under_then, after_under, number_still, has_still, can_still}
 use Rattle.epoch_manager.proofs.TokenSteps.{Goes}
 
 one_so : (l k : ℕ) → is_one l k ≡ true → k ≡ l
@@ -201,6 +201,7 @@ module _ {C View' Call Reply State' : Type 0} (K : ClientTerms C View' Call Repl
   takes_after m k n looks q under takes =
       let same = under.same in record {
         looks = looks ++ takes.looks;
+        free = headers-append looks takes.looks (place_of q) ∙ ap (later (last_header looks (place_of q))) takes.free;
         goes =
             after_under K opens step plan m k n looks takes.looks (entries_of_items m.0.number (event m.0.number (Given q))) n.0.part under
             (subst (λ c. Goes K opens step plan k n takes.looks (entries_of_items c (event c (Given q))) n.0.part) (number_still K opens step plan m k looks under) takes.goes);

@@ -165,7 +165,7 @@ module _ {C View' Call Reply State' : Type 0} (K : ClientTerms C View' Call Repl
         take_done (Err fault) refuses = refused_done shaped asked fault refuses
 
         pub take_reads : (result : Result Pointer TakeFault) (takes : TakesSeat K opens step plan asked m n result) → TakeReads plan.shape result (words_of asked result takes)
-        take_reads (Ok q) takes = tt
+        take_reads (Ok q) takes = takes.free
         take_reads (Err fault) refuses = refuses.cause
 
         pub take_owned : (result : Result Pointer TakeFault) → TakesSeat K opens step plan asked m n result → pointers now.facts now.seat.owned ≡ owned_then (pointers was.facts was.seat.owned) result

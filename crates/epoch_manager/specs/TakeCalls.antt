@@ -1,8 +1,10 @@
 -- What a take does to its pass, by its answer.
-use Rattle.std.specs.Prelude.{◌≡◌, ◌≤◌, ℕ, List, ◌∷◌, Result, Ok, Err}
+use Rattle.std.specs.Prelude.{◌≡◌, ◌≤◌, ℕ, List, ◌∷◌, Some, Result, Ok, Err}
 use Rattle.pass_book.specs.declared.entries.Look.{Look}
 use Rattle.pgas_base.specs.declared.shapes.Shape.{Shape}
 use Rattle.pgas_base.specs.Pointers.{Pointer}
+use Rattle.pool_core.specs.Headers.{header_word}
+use Rattle.pool_core.specs.declared.headers.State.TheVariants.{Free}
 use Rattle.epoch_laws.specs.Places.{place_of}
 use Rattle.epoch_laws.specs.States.{IsPlace}
 use Rattle.epoch_laws.specs.Words.{WordName}
@@ -10,7 +12,7 @@ use Rattle.epoch_table.specs.declared.parts.Plan.{Plan}
 use Rattle.epoch_table.specs.Clients.{ClientTerms, Takes}
 use Rattle.epoch_manager.specs.declared.faults.TakeFault.{TakeFault}
 use Rattle.epoch_manager.specs.declared.faults.TakeFault.TheVariants.{NoRoom, Spent}
-use Rattle.epoch_manager.specs.Takes.{TakeCause, TakeTells, CanSpend}
+use Rattle.epoch_manager.specs.Takes.{last_header, TakeCause, TakeTells, CanSpend}
 use Rattle.epoch_manager.specs.TakeSeats.{SeatOf, Under, IsEmptyHanded, TakesOne}
 
 -- the objects owned afterwards
@@ -23,9 +25,9 @@ abbrev pub IsInside : Shape → Result Pointer TakeFault → Type 0
 IsInside shape (Ok q) = IsPlace shape (place_of q)
 IsInside shape (Err fault) = Unit {0}
 
--- the words that were read are the cause of a refusal
+-- the words that were read are the cause: of an object that is given the header said last that it is free, in this use
 abbrev pub TakeReads : Shape → Result Pointer TakeFault → List (Look WordName) → Type 0
-TakeReads shape (Ok q) looks = Unit {0}
+TakeReads shape (Ok q) looks = last_header looks (place_of q) ≡ Some (header_word q.count Free)
 TakeReads shape (Err fault) looks = TakeCause shape fault looks
 
 -- a refusal tells the locale that was asked for, or the last count

@@ -4,6 +4,8 @@ use Rattle.atomic_table.specs.Table.{Me}
 use Rattle.pass_book.specs.declared.entries.Look.{Look}
 use Rattle.pgas_base.specs.declared.shapes.Shape.{Shape}
 use Rattle.pgas_base.specs.Pointers.{Pointer, IsPointer, word_of}
+use Rattle.pool_core.specs.Headers.{header_word}
+use Rattle.pool_core.specs.declared.headers.State.TheVariants.{Free}
 use Rattle.epoch_laws.specs.declared.events.EpochEvent.TheVariants.{Given}
 use Rattle.epoch_laws.specs.ChainWords.{IsChainWord}
 use Rattle.epoch_laws.specs.Locations.{IsDistinct}
@@ -201,6 +203,7 @@ module _ {C View' Call Reply State' : Type 0} (K : ClientTerms C View' Call Repl
   -- a take of one object
   pub record TakesOne (m n : SeatOf) (q : Pointer) : Type 0 where
     pub looks : List (Look WordName)
+    pub free : last_header looks (place_of q) ≡ Some (header_word q.count Free)
     pub goes : GoesTo (manager_terms K) (PastOpens opens) (PastSteps step) plan m n looks (entries_of_items m.0.number (event m.0.number (Given q))) n.0.part m.1
     pub phase : n.0.part.seat.phase ≡ m.0.part.seat.phase
     pub token : n.0.part.seat.token ≡ m.0.part.seat.token

@@ -149,9 +149,9 @@ impl<C: Client> Manager<C> {
 
     /// Takes an object: it belongs to this pass then, and what stands in its row is left open until it is filled. The call
     /// goes round the locales, beginning with the one asked for, so the object may be of any locale. `NoRoom` comes exactly
-    /// where for each object of every locale this call looked last at a header that didn't say free, and no stack's head
-    /// had its last count. `Spent` comes exactly where one had it and no object was got. It waits for others that are in
-    /// the middle of a step with an object that may be free.
+    /// where this call found no stack's head with its last count, and for each object of every locale looked last at a
+    /// header that didn't say free. `Spent` comes exactly where it found such a head and got no object. It waits for others
+    /// that are in the middle of a step with an object that may be free.
     pub fn take<R: Wait>(&self, rt: &R, pass: &mut Pass<C>, locale: u8) -> Result<Ptr, TakeFault>
         requires opening { pass_opening pass.old ≡ opening_of self.now }
         requires locale { locale < (shape_of self.now).locales }

@@ -1,11 +1,11 @@
 //! A manager of rows of memory that are reclaimed by epochs: what callers of it do in whole calls, each made of steps
 //! of `epoch_table`.
 //!
-//! There are the opening with its refusals, the calls on tokens (register, unregister, pin, unpin), those on an object
-//! that the caller owns (fill, show, give_back) or has cut out (defer_delete), holds of links, steps on the client's
-//! words and on rows (look, put, switch, trade, raise), reads, notes and the close, for any client; and `Cells`, a client
-//! whose links are a row of cells. The calls by which objects are taken and reclaimed are not there yet: of them stand the
-//! steps on one locale's stacks and chains (`taking`), and how a reclaim begins and advances (`reclaims`).
+//! There are the opening with its refusals, the calls on tokens (register, unregister, pin, unpin), a take of an object of
+//! any locale, the calls on an object that the caller owns (fill, show, give_back) or has cut out (defer_delete), holds of
+//! links, steps on the client's words and on rows (look, put, switch, trade, raise), reads, notes and the close, for any
+//! client; and `Cells`, a client whose links are a row of cells. The call by which objects are reclaimed is not there yet:
+//! of it stands how it begins and advances (`reclaims`).
 #![tactic(auto)]
 
 mod cells;
