@@ -9,6 +9,8 @@ pub mod ScanSteps
 pub mod GlobalSteps
 pub mod LocalSteps
 pub mod AdvanceSteps
+pub mod AloneHome
+pub mod ReleaseSteps
 pub mod Crowds
 pub mod PassClauses
 pub mod ObjectSteps

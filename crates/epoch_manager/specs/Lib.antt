@@ -16,3 +16,4 @@ pub mod HeldNumbers
 pub mod HoldCalls
 pub mod Takes
 pub mod TakeSeats
+pub mod Releasing

@@ -23,6 +23,7 @@ mod phases;
 mod plain_cells;
 mod reads;
 mod reclaims;
+mod releases;
 mod returns;
 mod spots;
 mod taking;
