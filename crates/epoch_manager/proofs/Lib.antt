@@ -11,6 +11,8 @@ pub mod LocalSteps
 pub mod AdvanceSteps
 pub mod AloneHome
 pub mod ReleaseSteps
+pub mod ReleaseLists
+pub mod ReleaseWhole
 pub mod Crowds
 pub mod PassClauses
 pub mod ObjectSteps

@@ -1,15 +1,16 @@
 -- What a reclaim does between its advance and its leaves.
-use Rattle.std.specs.Prelude.{◌≡◌, ◌⊎◌, ℕ, true, List, [], ◌∷◌, map, fold, Some, None}
+use Rattle.std.specs.Prelude.{◌≡◌, ◌⊎◌, ◌+◌, ◌*◌, ◌≤◌, ◌<◌, ◌++◌, ℕ, true, false, List, [], ◌∷◌, length, map, fold, Some, None, Result, Ok, Err}
 use Rattle.pass_book.specs.declared.entries.Look.{Look}
 use Rattle.pgas_base.specs.declared.shapes.Shape.{Shape}
 use Rattle.pgas_base.specs.Pointers.{Pointer, IsPointer, word_of}
 use Rattle.epoch_laws.specs.declared.events.EpochEvent.TheVariants.{Freed}
 use Rattle.epoch_laws.specs.declared.events.Item.{Item}
-use Rattle.epoch_laws.specs.declared.events.Item.TheVariants.{Event}
+use Rattle.epoch_laws.specs.declared.events.Item.TheVariants.{Event, Advance as Advances, Claim, Leave}
 use Rattle.epoch_laws.specs.ChainWords.{IsChainWord}
 use Rattle.epoch_laws.specs.Locations.{IsDistinct}
 use Rattle.epoch_laws.specs.Places.{Place, place_of, pending, is_among}
-use Rattle.epoch_laws.specs.Seats.{Advanced}
+use Rattle.epoch_laws.specs.ReclaimSteps.{last_epoch}
+use Rattle.epoch_laws.specs.Seats.{Advanced, Registered}
 use Rattle.epoch_laws.specs.States.{IsPlace}
 use Rattle.epoch_laws.specs.Words.{WordName}
 use Rattle.pass_table.specs.Steps.{GoesTo, GoesAmongTo}
@@ -21,6 +22,9 @@ use Rattle.epoch_table.specs.Facts.{Facts, count_of}
 use Rattle.epoch_table.specs.Kinds.{entries_of_items}
 use Rattle.epoch_table.specs.Released.{released_by}
 use Rattle.epoch_table.specs.Rule.{manager_terms}
+use Rattle.epoch_manager.specs.declared.faults.NotNow.{NotNow}
+use Rattle.epoch_manager.specs.declared.reclaims.Advanced.{Advanced as Reclaimed}
+use Rattle.epoch_manager.specs.Reclaiming.{ArePassed, local_read, global_read, epoch_read, EntersReclaim}
 use Rattle.epoch_manager.specs.Returning.{home_words}
 use Rattle.epoch_manager.specs.TakeSeats.{SeatOf, Has}
 
@@ -69,6 +73,14 @@ pub record IsKeptBy {View' : Type 0} (old new : Part View') : Type 0 where
 abbrev pub freed_items : ℕ → List Pointer → List Item
 freed_items c pointers = map (λ q. Event c (Freed q) 0) pointers
 
+-- what a reclaim lists that advances to this epoch and frees these objects
+abbrev pub reclaim_items : ℕ → ℕ → List Pointer → List Item
+reclaim_items c epoch pointers = Claim c false ∷ Claim c true ∷ Advances c epoch ∷ (freed_items c pointers ++ Leave c true ∷ Leave c false ∷ [])
+
+-- it is registered, and in no reclaim
+abbrev pub resting : {View' : Type 0} → Part View' → Part View'
+resting part = record part { seat = record part.seat { phase = Registered } }
+
 module _ {C View' Call Reply State' : Type 0} (K : ClientTerms C View' Call Reply State') where
   -- what a pass then knows of the client
   abbrev pub frees_after : View' → List Pointer → View'
@@ -98,3 +110,55 @@ module _ {C View' Call Reply State' : Type 0} (K : ClientTerms C View' Call Repl
     pub leads : IsChainWord plan.shape word
     pub released : released_of n ≡ place_of q ∷ released_of m
     pub distinct : IsDistinct (released_of n)
+
+  -- so many objects were freed since the last advance, each one of the shape, and no more than it has
+  pub record HasFreed (m : SeatOf K opens step plan) (freed : ℕ) : Type 0 where
+    pub many : length (released_of m) ≡ freed
+    pub inside : (p : Place) → is_among p (released_of m) ≡ true → IsPlace plan.shape p
+    pub low : freed ≤ plan.shape.locales * plan.shape.objects
+
+  -- The list of a locale was collected and objects of it were freed, with those before so many, and this word leads on
+  pub record ReleasesList (epoch list freed word total : ℕ) (m n : SeatOf K opens step plan) : Type 0 where
+    pub pointers : List Pointer
+    pub lists : Lists m n (freed_items m.0.number pointers) pointers
+    pub releasing : IsReleasing plan.shape.locales epoch (list + 1) word n.0.part
+    pub leads : IsChainWord plan.shape word
+    pub count : total ≡ freed + length pointers
+    pub has : HasFreed n total
+
+  -- The epoch is advanced and spread, and of so many locales what may be released was released: so many objects
+  pub record ReleasesAll (epoch lists freed : ℕ) (m n : SeatOf K opens step plan) : Type 0 where
+    pub pointers : List Pointer
+    pub went : Lists m n (Advances m.0.number (epoch + 1) ∷ freed_items m.0.number pointers) pointers
+    pub releasing : IsReleasing plan.shape.locales epoch lists 0 n.0.part
+    pub count : freed ≡ length pointers
+    pub has : HasFreed n freed
+
+  -- both elections are left
+  abbrev pub LeavesBoth : SeatOf K opens step plan → SeatOf K opens step plan → Type 0
+  LeavesBoth m n = GoesAmongTo (manager_terms K) (PastOpens opens) (PastSteps step) plan m n [] (entries_of_items m.0.number (Leave m.0.number true ∷ Leave m.0.number false ∷ [])) (resting m.0.part) m.1
+
+  -- A whole reclaim advanced to this epoch and freed so many objects: no token stopped it, with the epoch before
+  pub record ReclaimsSeat (to freed : ℕ) (m n : SeatOf K opens step plan) : Type 0 where
+    pub epoch : ℕ
+    pub one_more : to ≡ epoch + 1
+    pub not_last : epoch < last_epoch
+    pub passed : List (Look WordName)
+    pub are_passed : ArePassed plan.shape.tokens epoch (plan.shape.locales * plan.shape.tokens) passed
+    pub more : List (Look WordName)
+    pub pointers : List Pointer
+    pub count : freed ≡ length pointers
+    pub goes : GoesAmongTo (manager_terms K) (PastOpens opens) (PastSteps step) plan m n
+        (local_read m.0.part.seat.token.locale 0 ∷ global_read 0 ∷ epoch_read epoch ∷ (passed ++ more))
+        (entries_of_items m.0.number (reclaim_items m.0.number to pointers)) n.0.part m.1
+    pub kept : IsKeptBy m.0.part n.0.part
+    pub client : n.0.part.client ≡ frees_after K m.0.part.client pointers
+    pub phase : n.0.part.seat.phase ≡ Registered
+    pub walked : n.0.part.seat.reclaim.walked ≡ []
+    pub hand : n.0.part.seat.hand ≡ []
+    pub tail : n.0.part.seat.homing.tail ≡ None
+
+  -- a reclaim, or what refuses it
+  abbrev pub Reclaims : SeatOf K opens step plan → SeatOf K opens step plan → Result Reclaimed NotNow → Type 0
+  Reclaims m n (Ok reclaimed) = ReclaimsSeat reclaimed.epoch reclaimed.freed m n
+  Reclaims m n (Err fault) = EntersReclaim K opens step plan m n (Err fault)

@@ -34,6 +34,7 @@ pub use closing::{Closed, ManagerBack};
 pub use faults::{OpenFault, TokensFull};
 pub use managers::{ClientPass, MOST_HELD, Manager, Note, Pass};
 pub use phases::Phase;
+pub use reclaims::Advanced;
 pub use plain_cells::{CellCall, PlainCells};
 
 #[cfg(test)]

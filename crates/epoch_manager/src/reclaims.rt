@@ -14,6 +14,15 @@ use epoch_table::{Client, TableSeat};
 // The last epoch, from which no advance is made.
 const LAST_EPOCH: u64 = 1 << 62;
 
+/// What a reclaim has done.
+#[derive(Debug, Drop, Clone, Copy, PartialEq, Eq)]
+pub struct Advanced {
+    /// The new epoch, one more than the one before.
+    pub epoch: u64,
+    /// How many objects were freed.
+    pub freed: u32,
+}
+
 // A token that stops a scan, and its word.
 struct Stop {
     token: Token,
@@ -108,7 +117,7 @@ impl<C: Client> Manager<C> {
     }
 
     // Elects in the seat's locale and globally, looks and scans. Where that is refused it leaves what it has won.
-    fn enter(&self, seat: &mut TableSeat<C>, locale: u8) -> Result<u64, NotNow>
+    pub(crate) fn enter(&self, seat: &mut TableSeat<C>, locale: u8) -> Result<u64, NotNow>
         requires seat { IsSeatOf self.now.words.table seat.old }
         requires below { (view_of seat.old).number < callers_of self.now }
         requires registered { (view_of seat.old).part.seat.phase ≡ IsRegistered }
@@ -134,7 +143,7 @@ impl<C: Client> Manager<C> {
     }
 
     // Advances the epoch, and spreads it to all locales.
-    fn advance_all(&self, seat: &mut TableSeat<C>, epoch: u64)
+    pub(crate) fn advance_all(&self, seat: &mut TableSeat<C>, epoch: u64)
         requires seat { IsSeatOf self.now.words.table seat.old }
         requires below { (view_of seat.old).number < callers_of self.now }
         requires epoch { epoch < last_epoch }
