@@ -17,6 +17,7 @@ pub mod Crowds
 pub mod PassClauses
 pub mod ObjectSteps
 pub mod Returned
+pub mod Reclaimed
 pub mod SpotClauses
 pub mod HoldClauses
 pub mod TakeRows

@@ -30,7 +30,7 @@ none_so None is = refl
 none_so (Some p) is = absurd (false≢true is)
 
 -- a seat with nothing under way has nothing in its hand, and no chain of it waits for its link
-settled_so : (seat : Seat) (won : Bool) → is_done seat won ≡ true → IsSettled seat × (((seat.homing.chain == 0) && (is_nil seat.reclaim.walked && not won)) ≡ true)
+pub settled_so : (seat : Seat) (won : Bool) → is_done seat won ≡ true → IsSettled seat × (((seat.homing.chain == 0) && (is_nil seat.reclaim.walked && not won)) ≡ true)
 settled_so seat won is =
     let rest : Bool = (seat.homing.chain == 0) && (is_nil seat.reclaim.walked && not won) in
     let first = both (is_nil seat.hand) (is_none seat.homing.tail && rest) is in

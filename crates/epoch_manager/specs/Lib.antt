@@ -17,3 +17,4 @@ pub mod HoldCalls
 pub mod Takes
 pub mod TakeSeats
 pub mod Releasing
+pub mod ReclaimCalls
