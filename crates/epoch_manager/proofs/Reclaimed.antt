@@ -1,5 +1,5 @@
 -- What a reclaim comes to for its pass.
-use Rattle.std.proofs.Common.{◌≡◌, ◌<◌, ◌==◌, ◌&&◌, ◌++◌, ◌⊎◌, ℕ, Bool, true, false, List, [], ◌∷◌, length, map, Result, Ok, Err, refl, ap, sym, ◌∙◌, subst, inl, inr}
+use Rattle.std.proofs.Common.{◌≡◌, ◌==◌, ◌&&◌, ◌++◌, ◌⊎◌, ℕ, true, false, List, [], ◌∷◌, length, Result, Ok, Err, refl, ap, sym, ◌∙◌, subst, inl, inr}
 use Rattle.std.specs.Prelude.{not, is_none}
 use Rattle.pass_book.specs.declared.entries.Look.{Look}
 use Rattle.pgas_base.specs.declared.shapes.Shape.{Shape}
@@ -13,16 +13,15 @@ use Rattle.epoch_laws.specs.Words.{WordName}
 use Rattle.epoch_table.specs.declared.parts.Plan.{Plan}
 use Rattle.epoch_table.specs.declared.parts.Part.{Part}
 use Rattle.epoch_table.specs.Clients.{ClientTerms}
-use Rattle.epoch_table.specs.Facts.{Facts, count_of}
-use Rattle.epoch_table.specs.Kinds.{entries_of_items}
+use Rattle.epoch_table.specs.Facts.{Facts}
 use Rattle.epoch_table.specs.Rule.{is_between}
 use Rattle.epoch_manager.specs.declared.faults.NotNow.{NotNow}
 use Rattle.epoch_manager.specs.declared.faults.NotNow.TheVariants.{LocalBusy, GlobalBusy, EpochsSpent, Held}
 use Rattle.epoch_manager.specs.declared.phases.Phase.{Phase}
 use Rattle.epoch_manager.specs.declared.phases.Phase.TheVariants.{Registered}
 use Rattle.epoch_manager.specs.declared.reclaims.Advanced.{Advanced}
-use Rattle.epoch_manager.specs.Fits.{is_nil, is_done, stands_as, is_inside, are_known, may_hold, IsKept, PassFits}
-use Rattle.epoch_manager.specs.Managers.{pointers, pointer_of, ListsItems}
+use Rattle.epoch_manager.specs.Fits.{is_nil, is_done, stands_as, are_known, may_hold, PassFits}
+use Rattle.epoch_manager.specs.Managers.{pointers, ListsItems}
 use Rattle.epoch_manager.specs.Reclaiming.{IsRefused, local_read, reclaimed_to, EntersReclaim}
 use Rattle.epoch_manager.specs.ReclaimCalls.{ReclaimCause, refused_items, ListsReclaim}
 use Rattle.epoch_manager.specs.Releasing.{IsKeptBy, reclaim_items, frees_after, ReclaimsSeat, Reclaims}
@@ -30,7 +29,7 @@ use Rattle.epoch_manager.specs.TakeSeats.{places}
 use Rattle.epoch_manager.proofs.Known.{both, and_so, known_agree, pointers_agree}
 use Rattle.epoch_manager.proofs.PassClauses.{Done, Changed, done_among, done_listed, stands_registered, now_registered}
 use Rattle.epoch_manager.proofs.Returned.{settled_so}
-use Rattle.epoch_manager.proofs.TokenSteps.{Seated, Among}
+use Rattle.epoch_manager.proofs.TokenSteps.{Seated}
 
 -- the pointers to objects name them
 pub places_of : (facts : Facts) (ps : List Place) → places (pointers facts ps) ≡ ps

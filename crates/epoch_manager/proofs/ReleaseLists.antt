@@ -1,11 +1,8 @@
 -- What the release of a list comes to.
-use Rattle.std.proofs.Common.{◌≡◌, ◌≢◌, ◌⊎◌, ◌<◌, ◌≤◌, ◌+◌, ◌*◌, ◌++◌, ℕ, true, List, [], ◌∷◌, length, map, Some, refl, ap, ap₂, sym, ◌∙◌, subst, arith, inl, inr, ⊎_elim, length-append, append-nil}
-use Rattle.std.specs.Prelude.{fold}
+use Rattle.std.proofs.Common.{◌≡◌, ◌≢◌, ◌<◌, ◌≤◌, ◌+◌, ◌*◌, ◌++◌, ℕ, true, List, [], ◌∷◌, length, refl, ap, sym, ◌∙◌, subst, arith, inl, inr, ⊎_elim, length-append, append-nil}
 use Rattle.std.proofs.Math.Nat.{mul-le-mul_right}
 use Rattle.std.proofs.lemmas.List.{map-append}
 use Rattle.std.proofs.lemmas.List.Sums.{fold-append}
-use Rattle.pass_book.specs.declared.entries.Entry.{Entry}
-use Rattle.pass_book.specs.declared.entries.Look.{Look}
 use Rattle.pgas_base.specs.declared.shapes.Shape.{Shape}
 use Rattle.pgas_base.specs.Shapes.{IsShape}
 use Rattle.pgas_base.specs.Pointers.{Pointer, IsPointer, word_of}
@@ -13,18 +10,14 @@ use Rattle.epoch_laws.specs.declared.events.EpochEvent.TheVariants.{Freed}
 use Rattle.epoch_laws.specs.declared.events.Item.{Item}
 use Rattle.epoch_laws.specs.declared.events.Item.TheVariants.{Event}
 use Rattle.epoch_laws.specs.declared.steps.Kind.TheVariants.{Collect}
-use Rattle.epoch_laws.specs.ChainWords.{IsChainWord}
 use Rattle.epoch_laws.specs.Places.{Place, place_of, place_in, is_among}
 use Rattle.epoch_laws.specs.States.{IsPlace}
-use Rattle.epoch_laws.specs.Words.{WordName, list}
 use Rattle.epoch_laws.proofs.Lists.{among_cons}
 use Rattle.epoch_laws.proofs.Words.{place_in-word_of, word_not_none}
-use Rattle.epoch_table.specs.declared.events.Happens.{Happens}
 use Rattle.epoch_table.specs.declared.parts.Plan.{Plan}
 use Rattle.epoch_table.specs.declared.parts.Part.{Part}
 use Rattle.epoch_table.specs.Clients.{ClientTerms, Frees}
 use Rattle.epoch_table.specs.Deeds.{deed}
-use Rattle.epoch_table.specs.Facts.{count_of, facts_after}
 use Rattle.epoch_table.specs.Kinds.{entries_of_items, looks_of, MayMake, Makes}
 use Rattle.epoch_table.specs.Released.{released_by}
 use Rattle.epoch_manager.specs.TakeSeats.{Has}
@@ -33,7 +26,7 @@ use Rattle.epoch_manager.proofs.Crowds.{no_more}
 use Rattle.epoch_manager.proofs.HandChains.{small_of}
 use Rattle.epoch_manager.proofs.LocalSteps.{entries_append}
 use Rattle.epoch_manager.proofs.ReclaimSteps.{collect_row, collect_told}
-use Rattle.epoch_manager.proofs.TokenSteps.{Seated, Goes, Among, made_of, as_among, then_among}
+use Rattle.epoch_manager.proofs.TokenSteps.{Seated, Among, made_of, as_among, then_among}
 
 -- all locales have few objects
 pub most_objects : (shape : Shape) → IsShape shape → shape.locales * shape.objects ≤ 16777216

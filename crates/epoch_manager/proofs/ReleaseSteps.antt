@@ -1,5 +1,5 @@
 -- An object of a collected chain is walked over, released, and goes home where it became free.
-use Rattle.std.proofs.Common.{◌≡◌, ◌≢◌, ◌⊎◌, ◌<◌, ◌==◌, ◌+◌, ◌++◌, ℕ, Bool, true, false, if◌then◌else◌, List, [], ◌∷◌, Some, None, refl, ap, sym, ◌∙◌, subst, arith, ⊎_elim, eq-eqb, ne_eqb}
+use Rattle.std.proofs.Common.{◌≡◌, ◌≢◌, ◌<◌, ◌==◌, ◌+◌, ◌++◌, ℕ, true, false, if◌then◌else◌, List, [], ◌∷◌, Some, None, refl, ap, sym, ◌∙◌, subst, arith, ⊎_elim, eq-eqb, ne_eqb}
 use Rattle.std.specs.Prelude.{fold}
 use Rattle.std.proofs.lemmas.Bool.{cases_Bool}
 use Rattle.std.proofs.lemmas.List.Sums.{fold-append}
@@ -11,14 +11,10 @@ use Rattle.pass_table.specs.Views.{page_of}
 use Rattle.pgas_base.specs.Pointers.{Pointer, IsPointer, word_of}
 use Rattle.pool_core.specs.Headers.{header_word, released_word}
 use Rattle.pool_core.specs.declared.headers.State.TheVariants.{Free, Worn}
-use Rattle.epoch_laws.specs.declared.events.EpochEvent.TheVariants.{Freed}
 use Rattle.epoch_laws.specs.declared.steps.Kind.TheVariants.{Walk, Release}
-use Rattle.epoch_laws.specs.ChainWords.{IsChainWord}
 use Rattle.epoch_laws.specs.Locations.{IsDistinct}
-use Rattle.epoch_laws.specs.Needs.{event}
-use Rattle.epoch_laws.specs.Places.{Place, place_of, place_in, same_place, is_among, without}
+use Rattle.epoch_laws.specs.Places.{Place, place_of, place_in, is_among, without}
 use Rattle.epoch_laws.specs.ReclaimSteps.{last_count}
-use Rattle.epoch_laws.specs.Seats.{Advanced}
 use Rattle.epoch_laws.specs.States.{IsPlace}
 use Rattle.epoch_laws.specs.Words.{WordName, next_of}
 use Rattle.epoch_laws.proofs.Lists.{among_here, left_rest, without_one, among_none}
@@ -29,18 +25,18 @@ use Rattle.epoch_table.specs.declared.events.Happens.TheVariants.{Lists as HasLi
 use Rattle.epoch_table.specs.declared.parts.Plan.{Plan}
 use Rattle.epoch_table.specs.declared.parts.Part.{Part}
 use Rattle.epoch_table.specs.Clients.{ClientTerms, Frees}
-use Rattle.epoch_table.specs.Facts.{Facts, IsNew, count_of, next_word_of, facts_after}
+use Rattle.epoch_table.specs.Facts.{Facts, count_of, facts_after}
 use Rattle.epoch_table.specs.Kinds.{entries_of_items, MayMake, Makes}
 use Rattle.epoch_table.specs.Numbers.{count_in, header_in}
 use Rattle.epoch_table.specs.Released.{released_after, released_by}
 use Rattle.epoch_table.proofs.Knowledge.{header_read}
 use Rattle.epoch_manager.specs.Returning.{home_words}
 use Rattle.epoch_manager.specs.TakeSeats.{Has}
-use Rattle.epoch_manager.specs.Releasing.{HasAlone, part_homed, IsWalking, IsKeptBy, freed_items, GoesAlone, Lists, ReleasesOne, released_of}
+use Rattle.epoch_manager.specs.Releasing.{HasAlone, part_homed, IsWalking, IsKeptBy, freed_items, GoesAlone, ReleasesOne, released_of}
 use Rattle.epoch_manager.proofs.HandChains.{small_of}
 use Rattle.epoch_manager.proofs.HomeWalks.{count_back}
 use Rattle.epoch_manager.proofs.ReclaimSteps.{walk_row, walk_told, release_row, release_free, release_worn}
-use Rattle.epoch_manager.proofs.TokenSteps.{Seated, Goes, Among, made_of, as_among, then_among, then_goes}
+use Rattle.epoch_manager.proofs.TokenSteps.{Seated, Goes, Among, made_of, as_among, then_among}
 
 one_without : (p : Place) → without p (p ∷ []) ≡ []
 one_without p = sym (without_one p (p ∷ [])) ∙ left_rest p [] (among_none p, tt)

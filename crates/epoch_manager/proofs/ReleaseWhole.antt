@@ -1,17 +1,15 @@
 -- What a whole reclaim comes to, from its advance to its leaves.
-use Rattle.std.proofs.Common.{◌≡◌, ◌<◌, ◌+◌, ◌*◌, ◌++◌, ℕ, true, false, if◌then◌else◌, List, [], ◌∷◌, length, Ok, Some, None, refl, ap, sym, ◌∙◌, subst, arith, eq-eqb, length-append, append-nil}
+use Rattle.std.proofs.Common.{◌≡◌, ◌<◌, ◌+◌, ◌*◌, ◌++◌, ℕ, true, false, if◌then◌else◌, List, [], ◌∷◌, length, Ok, None, refl, ap, sym, ◌∙◌, subst, arith, eq-eqb, length-append, append-nil}
 use Rattle.std.specs.Prelude.{fold}
 use Rattle.std.proofs.lemmas.List.Sums.{fold-append}
 use Rattle.pass_book.specs.declared.entries.Entry.{Entry}
 use Rattle.pass_book.specs.declared.entries.Look.{Look}
-use Rattle.pgas_base.specs.Pointers.{Pointer}
 use Rattle.epoch_laws.specs.declared.events.Item.{Item}
 use Rattle.epoch_laws.specs.declared.events.Item.TheVariants.{Advance as Advances, Claim, Leave as Leaves}
 use Rattle.epoch_laws.specs.declared.steps.Kind.TheVariants.{Leave}
-use Rattle.epoch_laws.specs.Places.{Place, is_among}
-use Rattle.epoch_laws.specs.ReclaimSteps.{last_epoch, has_global, MayLeave, IsDone}
-use Rattle.epoch_laws.specs.Seats.{Advanced, Registered, LeftGlobal}
-use Rattle.epoch_laws.specs.States.{IsPlace}
+use Rattle.epoch_laws.specs.Places.{is_among}
+use Rattle.epoch_laws.specs.ReclaimSteps.{has_global, MayLeave, IsDone}
+use Rattle.epoch_laws.specs.Seats.{Advanced, LeftGlobal}
 use Rattle.epoch_laws.specs.Words.{WordName}
 use Rattle.epoch_laws.proofs.Lists.{among_nil}
 use Rattle.epoch_table.specs.declared.events.Happens.{Happens}
@@ -22,8 +20,8 @@ use Rattle.epoch_table.specs.Deeds.{deed}
 use Rattle.epoch_table.specs.Facts.{facts_after}
 use Rattle.epoch_table.specs.Kinds.{entries_of_items, looks_of, MayMake, Makes}
 use Rattle.epoch_table.specs.Released.{released_after, released_by}
-use Rattle.epoch_manager.specs.Reclaiming.{scanned, looking, advanced, HasScanned, local_read, global_read, epoch_read, EntersReclaim, AdvancesTo}
-use Rattle.epoch_manager.specs.Releasing.{IsWalking, IsReleasing, IsKeptBy, freed_items, frees_after, reclaim_items, resting, Lists, HasFreed, ReleasesList, ReleasesAll, LeavesBoth, ReclaimsSeat, released_of}
+use Rattle.epoch_manager.specs.Reclaiming.{scanned, looking, local_read, global_read, epoch_read, EntersReclaim, AdvancesTo}
+use Rattle.epoch_manager.specs.Releasing.{IsReleasing, IsKeptBy, freed_items, frees_after, reclaim_items, resting, Lists, ReleasesList, ReleasesAll, LeavesBoth, ReclaimsSeat, released_of}
 use Rattle.epoch_manager.proofs.LocalSteps.{entries_append}
 use Rattle.epoch_manager.proofs.ReclaimSteps.{leave_row, global_left, local_left}
 use Rattle.epoch_manager.proofs.ReleaseLists.{kept_then, freed-append, lists_then, number_on}

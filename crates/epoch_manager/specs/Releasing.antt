@@ -1,8 +1,8 @@
 -- What a reclaim does between its advance and its leaves.
-use Rattle.std.specs.Prelude.{◌≡◌, ◌⊎◌, ◌+◌, ◌*◌, ◌≤◌, ◌<◌, ◌++◌, ℕ, true, false, List, [], ◌∷◌, length, map, fold, Some, None, Result, Ok, Err}
+use Rattle.std.specs.Prelude.{◌≡◌, ◌+◌, ◌*◌, ◌≤◌, ◌<◌, ◌++◌, ℕ, true, false, List, [], ◌∷◌, length, map, fold, Some, None, Result, Ok, Err}
 use Rattle.pass_book.specs.declared.entries.Look.{Look}
 use Rattle.pgas_base.specs.declared.shapes.Shape.{Shape}
-use Rattle.pgas_base.specs.Pointers.{Pointer, IsPointer, word_of}
+use Rattle.pgas_base.specs.Pointers.{Pointer}
 use Rattle.epoch_laws.specs.declared.events.EpochEvent.TheVariants.{Freed}
 use Rattle.epoch_laws.specs.declared.events.Item.{Item}
 use Rattle.epoch_laws.specs.declared.events.Item.TheVariants.{Event, Advance as Advances, Claim, Leave}
@@ -18,7 +18,7 @@ use Rattle.epoch_table.specs.declared.parts.Plan.{Plan}
 use Rattle.epoch_table.specs.declared.parts.Part.{Part}
 use Rattle.epoch_table.specs.Clients.{ClientTerms, Frees}
 use Rattle.epoch_table.specs.Events.{PastOpens, PastSteps}
-use Rattle.epoch_table.specs.Facts.{Facts, count_of}
+use Rattle.epoch_table.specs.Facts.{count_of}
 use Rattle.epoch_table.specs.Kinds.{entries_of_items}
 use Rattle.epoch_table.specs.Released.{released_by}
 use Rattle.epoch_table.specs.Rule.{manager_terms}

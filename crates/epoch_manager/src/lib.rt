@@ -2,10 +2,10 @@
 //! of `epoch_table`.
 //!
 //! There are the opening with its refusals, the calls on tokens (register, unregister, pin, unpin), those on an object
-//! that the caller owns (fill, show, give_back) or has cut out (defer_delete), holds of links, steps on the client's
-//! words and on rows (look, put, switch, trade, raise), reads, notes and the close, for any client; and `Cells`, a client
-//! whose links are a row of cells. The calls by which objects are taken and reclaimed are not there yet: of them stand the
-//! steps on one locale's stacks and chains (`taking`), and how a reclaim begins and advances (`reclaims`).
+//! that the caller owns (fill, show, give_back) or has cut out (defer_delete), the reclaim that frees what was deferred
+//! (try_reclaim), holds of links, steps on the client's words and on rows (look, put, switch, trade, raise), reads, notes
+//! and the close, for any client; and `Cells`, a client whose links are a row of cells. The call by which objects are
+//! taken is not there yet: of it stand the steps on one locale's stacks and chains (`taking`).
 #![tactic(auto)]
 
 mod cells;
@@ -31,11 +31,11 @@ mod tokens;
 
 pub use cells::{Cells, CellsView};
 pub use closing::{Closed, ManagerBack};
-pub use faults::{OpenFault, TokensFull};
+pub use faults::{NotNow, OpenFault, TokensFull};
 pub use managers::{ClientPass, MOST_HELD, Manager, Note, Pass};
 pub use phases::Phase;
-pub use reclaims::Advanced;
 pub use plain_cells::{CellCall, PlainCells};
+pub use reclaims::Advanced;
 
 #[cfg(test)]
 mod tests;

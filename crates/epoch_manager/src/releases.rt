@@ -121,7 +121,11 @@ impl<C: Client> Manager<C> {
     }
 
     // A whole reclaim of a seat at this locale.
-    pub(crate) fn reclaim_seat(&self, seat: &mut TableSeat<C>, locale: u8) -> Result<Advanced, NotNow>
+    pub(crate) fn reclaim_seat(
+        &self,
+        seat: &mut TableSeat<C>,
+        locale: u8,
+    ) -> Result<Advanced, NotNow>
         requires seat { IsSeatOf self.now.words.table seat.old }
         requires below { (view_of seat.old).number < callers_of self.now }
         requires registered { (view_of seat.old).part.seat.phase ≡ IsRegistered }

@@ -1,10 +1,13 @@
-use Rattle.std.proofs.Common.{◌≡◌, ◌≤◌, ◌<◌, ◌+◌, ◌*◌, ap, sym, subst, refl, arith, rules, ⊎_elim}
+use Rattle.std.proofs.Common.{◌≤◌, ◌<◌, ◌+◌, ◌*◌, sym, subst, refl, arith, rules, ⊎_elim}
 use Rattle.pass_table.specs.Passes.{me_of}
 use Rattle.epoch_manager.specs.Managers.{plan_of}
 use Rattle.epoch_manager.specs.Releasing.{ReleasesList}
 use Rattle.epoch_manager.proofs.HomeWalks.{ends_chain}
 use Rattle.epoch_manager.proofs.ReleaseLists.{most_objects, may_collect, collects_so, walking_on, below_on, inside_on, chain_on, low_now, one_released}
 use Rattle.epoch_manager.proofs.managers.Manager.release_list.Goals as goal
+
+pub collect-word-requires-clause-epoch : goal.collect-word-requires-clause-epoch
+collect-word-requires-clause-epoch g c = (sym c.requires.releasing.read, c.requires.epoch)
 
 pub collect-word-requires-clause-may : goal.collect-word-requires-clause-may
 collect-word-requires-clause-may g c =

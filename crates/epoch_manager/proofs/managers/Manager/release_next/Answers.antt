@@ -1,4 +1,4 @@
-use Rattle.std.proofs.Common.{◌≡◌, ◌≢◌, ◌∙◌, ◌+◌, sym, subst, arith}
+use Rattle.std.proofs.Common.{◌≢◌, ◌∙◌, ◌+◌, sym, subst, arith}
 use Rattle.epoch_laws.specs.ReclaimSteps.{last_count}
 use Rattle.pass_table.specs.Passes.{me_of}
 use Rattle.epoch_manager.specs.Managers.{plan_of}
