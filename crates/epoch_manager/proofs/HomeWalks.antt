@@ -25,7 +25,7 @@ use Rattle.epoch_manager.proofs.TakeRows.{home_walk_row, walk_waits, walk_told}
 use Rattle.epoch_manager.proofs.Takes.{under_one, reads_none, reads_then, had_still}
 use Rattle.epoch_manager.proofs.TokenSteps.{Goes, made_of}
 
-count_back : (q : Pointer) → q.count < 4294967296 → count_in (word_of q) ≡ q.count
+pub count_back : (q : Pointer) → q.count < 4294967296 → count_in (word_of q) ≡ q.count
 count_back q low = let l = q.locale in let i = q.index in let n = q.count in omega arith
 
 -- the place that a pointer's word names

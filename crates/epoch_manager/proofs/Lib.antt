@@ -9,10 +9,15 @@ pub mod ScanSteps
 pub mod GlobalSteps
 pub mod LocalSteps
 pub mod AdvanceSteps
+pub mod AloneHome
+pub mod ReleaseSteps
+pub mod ReleaseLists
+pub mod ReleaseWhole
 pub mod Crowds
 pub mod PassClauses
 pub mod ObjectSteps
 pub mod Returned
+pub mod Reclaimed
 pub mod SpotClauses
 pub mod HoldClauses
 pub mod TakeRows

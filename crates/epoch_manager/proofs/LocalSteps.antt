@@ -21,7 +21,7 @@ use Rattle.epoch_manager.specs.Reclaiming.{scanned, epoch_read, looking, reclaim
 use Rattle.epoch_manager.proofs.ReclaimSteps.{local_won, local_lost, local_left, local_row, leave_row}
 use Rattle.epoch_manager.proofs.TokenSteps.{Seated, Goes, Among, made_of, as_among, then_among}
 
-entries_append : {Call Reply : Type 0} (c : ℕ) (xs ys : List Item) → ◌≡◌ {A = List (Entry (Happens Call Reply) (Unit {0}))} (entries_of_items c (xs ++ ys)) (entries_of_items c xs ++ entries_of_items c ys)
+pub entries_append : {Call Reply : Type 0} (c : ℕ) (xs ys : List Item) → ◌≡◌ {A = List (Entry (Happens Call Reply) (Unit {0}))} (entries_of_items c (xs ++ ys)) (entries_of_items c xs ++ entries_of_items c ys)
 entries_append c [] ys = refl
 entries_append c (x ∷ xs) ys = ap (λ l. entry_of c x ∷ l) (entries_append c xs ys)
 

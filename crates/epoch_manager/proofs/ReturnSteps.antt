@@ -58,11 +58,11 @@ module _ (shape : Shape) (seats c : ℕ) (seat : Seat) (facts : Facts) where
       (number_here (λ d. seat) c (record seat { owned = without (place_of q) seat.owned; hand = place_of q ∷ seat.hand })
       ∙ ap (λ (l : List Place). record seat { owned = without (place_of q) seat.owned; hand = place_of q ∷ l }) none)
 
-  link_told : (q : Pointer) (word found : ℕ) → tells shape seats c seat facts (HandLink q word) found ≡ record { seat = seat; items = [] }
+  pub link_told : (q : Pointer) (word found : ℕ) → tells shape seats c seat facts (HandLink q word) found ≡ record { seat = seat; items = [] }
   unfolding move hand_link
   link_told q word found = refl
 
-  swap_told : (q : Pointer) (found : ℕ) → seat.hand ≡ place_of q ∷ [] → next_word_of facts (place_of q) ≡ Some pending
+  pub swap_told : (q : Pointer) (found : ℕ) → seat.hand ≡ place_of q ∷ [] → next_word_of facts (place_of q) ≡ Some pending
       → tells shape seats c seat facts (HomeSwap q q) found ≡ record { seat = record seat { hand = []; homing = record seat.homing { tail = Some (place_of q); old = found } }; items = [] }
   unfolding move home_swap led_over
   swap_told q found hand next =
@@ -72,7 +72,7 @@ module _ (shape : Shape) (seats c : ℕ) (seat : Seat) (facts : Facts) where
       let of : List Place → Seat = λ h. record seat { hand = h; homing = record seat.homing { tail = Some p; old = found } } in
       ap (λ (s : Seat). record { seat = s; items = [] }) (number_here (λ d. seat) c (of (left seat.hand)) ∙ ap of (ap left hand ∙ none))
 
-  home_told : (found : ℕ) → tells shape seats c seat facts HomeLink found ≡ record { seat = record seat { homing = record seat.homing { tail = None } }; items = [] }
+  pub home_told : (found : ℕ) → tells shape seats c seat facts HomeLink found ≡ record { seat = record seat { homing = record seat.homing { tail = None } }; items = [] }
   unfolding move home_link
   home_told found = ap (λ (s : Seat). record { seat = s; items = [] }) (number_here (λ d. seat) c (record seat { homing = record seat.homing { tail = None } }))
 
@@ -81,11 +81,11 @@ module _ (shape : Shape) (seats c : ℕ) (seat : Seat) (facts : Facts) where
     unfolding move give_back
     return_row q inside quiet own count = ((below, (inside, (quiet, (ap (λ o. unwrap_or o 0) count, (own, tt))))), count)
 
-    link_row : (q : Pointer) (word : ℕ) → IsPlace shape (place_of q) → is_among (place_of q) seat.hand ≡ true → count_of facts (place_of q) ≡ Some q.count → Row shape seats c seat facts (HandLink q word)
+    pub link_row : (q : Pointer) (word : ℕ) → IsPlace shape (place_of q) → is_among (place_of q) seat.hand ≡ true → count_of facts (place_of q) ≡ Some q.count → Row shape seats c seat facts (HandLink q word)
     unfolding move hand_link
     link_row q word inside own count = ((below, (inside, (ap (λ o. unwrap_or o 0) count, (own, tt)))), count)
 
-    swap_row : (q : Pointer) → IsPlace shape (place_of q) → seat.homing.tail ≡ None → seat.hand ≡ place_of q ∷ [] → count_of facts (place_of q) ≡ Some q.count → next_word_of facts (place_of q) ≡ Some pending
+    pub swap_row : (q : Pointer) → IsPlace shape (place_of q) → seat.homing.tail ≡ None → seat.hand ≡ place_of q ∷ [] → count_of facts (place_of q) ≡ Some q.count → next_word_of facts (place_of q) ≡ Some pending
         → Row shape seats c seat facts (HomeSwap q q)
     unfolding move home_swap
     swap_row q inside free hand count next =
@@ -102,7 +102,7 @@ module _ (shape : Shape) (seats c : ℕ) (seat : Seat) (facts : Facts) where
         ((q.count, subst (λ x. count_of facts x ≡ Some q.count) (sym is) count), (pending, subst (λ x. next_word_of facts x ≡ Some pending) (sym is) next))) in
         ((below, (inside, (inside, (free, (number, (number, ((own, refl), ((own, refl), (led, tt))))))))), known)
 
-    home_row : (p : Place) → seat.homing.tail ≡ Some p → Row shape seats c seat facts HomeLink
+    pub home_row : (p : Place) → seat.homing.tail ≡ Some p → Row shape seats c seat facts HomeLink
     unfolding move home_link
     home_row p is = ((below, ((p, is), tt)), tt)
 

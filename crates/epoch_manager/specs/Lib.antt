@@ -17,3 +17,5 @@ pub mod HoldCalls
 pub mod Takes
 pub mod TakeSeats
 pub mod TakeCalls
+pub mod Releasing
+pub mod ReclaimCalls

@@ -2,10 +2,9 @@
 //! of `epoch_table`.
 //!
 //! There are the opening with its refusals, the calls on tokens (register, unregister, pin, unpin), a take of an object of
-//! any locale, the calls on an object that the caller owns (fill, show, give_back) or has cut out (defer_delete), holds of
-//! links, steps on the client's words and on rows (look, put, switch, trade, raise), reads, notes and the close, for any
-//! client; and `Cells`, a client whose links are a row of cells. The call by which objects are reclaimed is not there yet:
-//! of it stands how it begins and advances (`reclaims`).
+//! any locale, the calls on an object that the caller owns (fill, show, give_back) or has cut out (defer_delete), the
+//! reclaim that frees what was deferred (try_reclaim), holds of links, steps on the client's words and on rows (look, put,
+//! switch, trade, raise), reads, notes and the close, for any client; and `Cells`, a client whose links are a row of cells.
 #![tactic(auto)]
 
 mod cells;
@@ -24,6 +23,7 @@ mod phases;
 mod plain_cells;
 mod reads;
 mod reclaims;
+mod releases;
 mod returns;
 mod spots;
 mod taking;
@@ -31,10 +31,11 @@ mod tokens;
 
 pub use cells::{Cells, CellsView};
 pub use closing::{Closed, ManagerBack};
-pub use faults::{OpenFault, TakeFault, TokensFull};
+pub use faults::{NotNow, OpenFault, TakeFault, TokensFull};
 pub use managers::{ClientPass, MOST_HELD, Manager, Note, Pass};
 pub use phases::Phase;
 pub use plain_cells::{CellCall, PlainCells};
+pub use reclaims::Advanced;
 
 #[cfg(test)]
 mod tests;

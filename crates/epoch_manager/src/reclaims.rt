@@ -1,18 +1,32 @@
 //! How the epoch is advanced, and what may be released is released.
 ghost use Rattle.std.specs.Prelude.{◌≡◌, ◌+◌, ◌*◌, ◌<◌, []};
+ghost use mathlib.Core.List.{IsPrefix};
+ghost use Rattle.epoch_laws.specs.declared.tokens.Token.{Token};
 ghost use Rattle.epoch_laws.specs.ReclaimSteps.{last_epoch, passes};
 ghost use Rattle.epoch_laws.specs.Seats.{Registered as IsRegistered, WonLocal, WonGlobal};
 ghost use Rattle.pass_table.specs.Passes.{IsSeatOf, view_of, me_of};
-ghost use Rattle.epoch_manager.specs.Managers.{plan_of, shape_of, callers_of};
+ghost use Rattle.epoch_manager.specs.Managers.{plan_of, opening_of, shape_of, callers_of, pass_opening, phase_of, page, owned_by, held_by, knows, IsSamePass, change, ReadsWords};
+ghost use Rattle.epoch_manager.specs.ReclaimCalls.{ReclaimCause, ListsReclaim};
+ghost use Rattle.epoch_manager.specs.TakeSeats.{places};
 ghost use Rattle.epoch_manager.specs.Reclaiming.{IsScanning, HasScanned, AdvancesTo, Scans, LooksAndScans, EntersGlobally, EntersReclaim};
 
 use crate::faults::NotNow;
-use crate::managers::Manager;
+use crate::managers::{Manager, Pass};
+use crate::phases::Phase;
 use epoch_laws::Token;
 use epoch_table::{Client, TableSeat};
 
 // The last epoch, from which no advance is made.
 const LAST_EPOCH: u64 = 1 << 62;
+
+/// What a reclaim has done.
+#[derive(Debug, Drop, Clone, Copy, PartialEq, Eq)]
+pub struct Advanced {
+    /// The new epoch, one more than the one before.
+    pub epoch: u64,
+    /// How many objects were freed.
+    pub freed: u32,
+}
 
 // A token that stops a scan, and its word.
 struct Stop {
@@ -108,7 +122,7 @@ impl<C: Client> Manager<C> {
     }
 
     // Elects in the seat's locale and globally, looks and scans. Where that is refused it leaves what it has won.
-    fn enter(&self, seat: &mut TableSeat<C>, locale: u8) -> Result<u64, NotNow>
+    pub(crate) fn enter(&self, seat: &mut TableSeat<C>, locale: u8) -> Result<u64, NotNow>
         requires seat { IsSeatOf self.now.words.table seat.old }
         requires below { (view_of seat.old).number < callers_of self.now }
         requires registered { (view_of seat.old).part.seat.phase ≡ IsRegistered }
@@ -134,7 +148,7 @@ impl<C: Client> Manager<C> {
     }
 
     // Advances the epoch, and spreads it to all locales.
-    fn advance_all(&self, seat: &mut TableSeat<C>, epoch: u64)
+    pub(crate) fn advance_all(&self, seat: &mut TableSeat<C>, epoch: u64)
         requires seat { IsSeatOf self.now.words.table seat.old }
         requires below { (view_of seat.old).number < callers_of self.now }
         requires epoch { epoch < last_epoch }
@@ -146,5 +160,27 @@ impl<C: Client> Manager<C> {
         for locale in 0..self.shape.locales {
             self.words.spread(seat, locale, epoch);
         }
+    }
+
+    /// Advances the epoch where no token is pinned with an older one, and frees what was deferred in the locales long
+    /// enough ago. A freed object has one count more and goes home to its locale, but one that has had its last count is
+    /// worn. Who advances has won two elections, that of its locale and the global one, which keep others out of the
+    /// whole reclaim (epochs as in Fraser 2004). A refused reclaim changes nothing, and leaves what it had won.
+    pub fn try_reclaim(&self, pass: &mut Pass<C>) -> Result<Advanced, NotNow>
+        requires opening { pass_opening pass.old ≡ opening_of self.now }
+        requires phase { (token : Token) × (phase_of pass.old ≡ Phase.Registered token) }
+        requires allowed { C.terms.may_reclaim (knows pass.old) (places (owned_by pass.old)) }
+        ensures pass { IsSamePass pass.old pass.new }
+        ensures phase { phase_of pass.new ≡ phase_of pass.old }
+        ensures owned { owned_by pass.new ≡ owned_by pass.old }
+        ensures held { held_by pass.new ≡ held_by pass.old }
+        ensures history { ListsReclaim C.terms C.Object.opens C.Object.step (plan_of self.now) (change pass.old pass.new) (knows pass.old) (knows pass.new) result }
+        ensures grows { IsPrefix (page pass.old).seen (page pass.new).seen }
+        ensures read { (token : Token) → phase_of pass.old ≡ Phase.Registered token → ReadsWords C.terms C.Object.opens C.Object.step (plan_of self.now) (change pass.old pass.new) (ReclaimCause (shape_of self.now) token.locale result) }
+    {
+        let Phase::Registered { token } = pass.phase else {
+            unreachable!()
+        };
+        self.reclaim_seat(&mut pass.pass.seat, token.locale)
     }
 }

@@ -375,6 +375,34 @@ fn through_a_cell(
 
 #[test]
 fn a_cell_leads_to_what_its_object_was_filled_with(rt: HostRuntime) {
+
+// A reclaim and one more, while another caller stays pinned.
+fn reclaim_behind_a_pin(
+    manager: &Manager<Cells>,
+    reader: &mut Pass<Cells>,
+    other: &mut Pass<Cells>,
+) -> [Option<Result<Advanced, NotNow>>; 2]
+    requires first { pass_opening reader.old ≡ opening_of manager.now }
+    requires second { pass_opening other.old ≡ opening_of manager.now }
+    requires idle { phase_of reader.old ≡ Phase.Idle }
+    requires other { phase_of other.old ≡ Phase.Idle }
+    requires locales { (shape_of manager.now).locales ≡ 2 }
+{
+    let _ = manager.register(reader, 0);
+    let _ = manager.register(other, 1);
+    if let Phase::Registered { .. } = reader.phase() {
+        manager.pin(reader);
+    }
+    if let Phase::Registered { .. } = other.phase() {
+        let first = manager.try_reclaim(other);
+        let second = manager.try_reclaim(other);
+        return [Some(first), Some(second)];
+    }
+    [None, None]
+}
+
+#[test]
+fn a_pin_stops_the_second_reclaim_after_it(rt: HostRuntime) {
     let (manager, mut passes) = Manager::open(
         rt.alloc(),
         shape(1),
@@ -442,4 +470,22 @@ fn a_locale_without_a_free_object_borrows_from_the_next(rt: HostRuntime) {
     let full = Some(TakeFault::NoRoom { locale: 1 });
     let borrowed = borrow_objects(&rt, &manager, &mut pass);
     assert_eq!(rt; borrowed, Some(([here, there, there], full)));
+
+        2,
+        Cells::new(1),
+    ).expect(&rt, "memory");
+    let Some(mut other) = take_pass(&manager, &mut passes) else {
+        return;
+    };
+    let Some(mut reader) = take_pass(&manager, &mut passes) else {
+        return;
+    };
+    let replies = reclaim_behind_a_pin(&manager, &mut reader, &mut other);
+    let first = Ok(Advanced { epoch: 2, freed: 0 });
+    let second = Err(NotNow::Held {
+        locale: 0,
+        token: 0,
+        word: 3,
+    });
+    assert_eq!(rt; replies, [Some(first), Some(second)]);
 }

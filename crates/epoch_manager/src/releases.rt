@@ -1,0 +1,152 @@
+//! What a reclaim releases, list by list, and how it goes home.
+ghost use Rattle.std.specs.Prelude.{◌≡◌, ◌<◌, ◌*◌, [], None};
+ghost use Rattle.pgas_base.specs.Pointers.{IsPointer, word_of};
+ghost use Rattle.epoch_laws.specs.Places.{place_of};
+ghost use Rattle.epoch_laws.specs.ReclaimSteps.{last_epoch, IsDone};
+ghost use Rattle.epoch_laws.specs.Seats.{Advanced as HasAdvanced, Registered as IsRegistered};
+ghost use Rattle.epoch_laws.specs.States.{IsPlace};
+ghost use Rattle.pass_table.specs.Passes.{IsSeatOf, view_of, me_of};
+ghost use Rattle.epoch_manager.specs.Managers.{plan_of, shape_of, callers_of};
+ghost use Rattle.epoch_manager.specs.Reclaiming.{HasScanned};
+ghost use Rattle.epoch_manager.specs.Releasing.{HasAlone, GoesAlone, IsWalking, IsReleasing, HasFreed, ReleasesOne, ReleasesList, ReleasesAll, LeavesBoth, Reclaims};
+
+use crate::faults::NotNow;
+use crate::managers::Manager;
+use crate::reclaims::Advanced;
+use epoch_table::{Client, TableSeat};
+use pgas_base::Ptr;
+
+// The next word of an object that has no link yet.
+const PENDING: u64 = u64::MAX;
+
+impl<C: Client> Manager<C> {
+    // Hands the object that is alone in the hand home, as a chain of one.
+    fn go_home(&self, seat: &mut TableSeat<C>, ptr: Ptr)
+        requires seat { IsSeatOf self.now.words.table seat.old }
+        requires below { (view_of seat.old).number < callers_of self.now }
+        requires alone { HasAlone (shape_of self.now) (view_of seat.old).part ptr }
+        ensures seat { IsSeatOf self.now.words.table seat.new }
+        ensures goes { GoesAlone C.terms C.Object.opens C.Object.step (plan_of self.now) ptr (me_of seat.old) (me_of seat.new) }
+    {
+        self.words.hand_link(seat, ptr, PENDING);
+        let old = self.words.home_swap(seat, ptr, ptr);
+        self.words.home_link(seat, ptr.locale(), ptr.index(), old);
+    }
+
+    // Walks over the chain's next object and releases it. Where it became free it goes home. Gives the word that leads on.
+    fn release_next(&self, seat: &mut TableSeat<C>, ptr: Ptr) -> u64
+        requires seat { IsSeatOf self.now.words.table seat.old }
+        requires below { (view_of seat.old).number < callers_of self.now }
+        requires walking { IsWalking (view_of seat.old).part }
+        requires pointer { IsPointer ptr }
+        requires place { IsPlace (shape_of self.now) (place_of ptr) }
+        requires chain { (view_of seat.old).part.seat.reclaim.chain ≡ word_of ptr }
+        ensures seat { IsSeatOf self.now.words.table seat.new }
+        ensures releases { ReleasesOne C.terms C.Object.opens C.Object.step (plan_of self.now) ptr result (me_of seat.old) (me_of seat.new) }
+    {
+        let next = self.words.walk(seat, ptr.locale(), ptr.index());
+        self.words.release(seat, ptr);
+        let worn = ptr.count() == u32::MAX;
+        if worn {
+            return next;
+        }
+        let free = Ptr::new(ptr.locale(), ptr.index(), ptr.count() + 1);
+        self.go_home(seat, free);
+        next
+    }
+
+    // How many objects all locales have.
+    fn many_objects(&self) -> u32
+        ensures { result ≡ (shape_of self.now).locales * (shape_of self.now).objects }
+    {
+        u32::from(self.shape.locales) * self.shape.objects
+    }
+
+    // Collects the list of a locale whose objects may be released, and releases them. Gives how many were freed, with
+    // those before. A list has no more objects than there are.
+    fn release_list(&self, seat: &mut TableSeat<C>, locale: u8, epoch: u64, freed: u32) -> u32
+        requires seat { IsSeatOf self.now.words.table seat.old }
+        requires below { (view_of seat.old).number < callers_of self.now }
+        requires locale { locale < (shape_of self.now).locales }
+        requires epoch { epoch < last_epoch }
+        requires releasing { IsReleasing (shape_of self.now).locales epoch locale 0 (view_of seat.old).part }
+        requires freed { HasFreed C.terms C.Object.opens C.Object.step (plan_of self.now) (me_of seat.old) freed }
+        ensures seat { IsSeatOf self.now.words.table seat.new }
+        ensures releases { ReleasesList C.terms C.Object.opens C.Object.step (plan_of self.now) epoch locale freed 0 result (me_of seat.old) (me_of seat.new) }
+    {
+        let mut word = self.words.collect(seat, locale, epoch);
+        let mut count = freed;
+        for _ in 0..self.many_objects() + 1 {
+            let Some(ptr) = Ptr::of_word(word) else {
+                return count;
+            };
+            word = self.release_next(seat, ptr);
+            count += 1;
+        }
+        unreachable!()
+    }
+
+    // Advances the epoch, and releases of every locale what may then be released. Gives how many were freed.
+    fn release_all(&self, seat: &mut TableSeat<C>, epoch: u64) -> u32
+        requires seat { IsSeatOf self.now.words.table seat.old }
+        requires below { (view_of seat.old).number < callers_of self.now }
+        requires epoch { epoch < last_epoch }
+        requires scanned { HasScanned (shape_of self.now).locales epoch (view_of seat.old).part }
+        requires hand { (view_of seat.old).part.seat.hand ≡ [] }
+        requires tail { (view_of seat.old).part.seat.homing.tail ≡ None }
+        ensures seat { IsSeatOf self.now.words.table seat.new }
+        ensures releases { ReleasesAll C.terms C.Object.opens C.Object.step (plan_of self.now) epoch (shape_of self.now).locales result (me_of seat.old) (me_of seat.new) }
+    {
+        self.advance_all(seat, epoch);
+        let mut freed = 0;
+        for locale in 0..self.shape.locales {
+            freed = self.release_list(seat, locale, epoch, freed);
+        }
+        freed
+    }
+
+    // Leaves the global election and then the local one.
+    fn leave_both(&self, seat: &mut TableSeat<C>, locale: u8)
+        requires seat { IsSeatOf self.now.words.table seat.old }
+        requires below { (view_of seat.old).number < callers_of self.now }
+        requires locale { (locale ≡ (view_of seat.old).part.seat.token.locale) × (locale < (shape_of self.now).locales) }
+        requires phase { (view_of seat.old).part.seat.phase ≡ HasAdvanced }
+        requires done { IsDone (shape_of self.now).locales (view_of seat.old).part.seat.reclaim }
+        requires hand { (view_of seat.old).part.seat.hand ≡ [] }
+        ensures seat { IsSeatOf self.now.words.table seat.new }
+        ensures leaves { LeavesBoth C.terms C.Object.opens C.Object.step (plan_of self.now) (me_of seat.old) (me_of seat.new) }
+    {
+        self.words.leave_global(seat);
+        self.words.leave_local(seat, locale);
+    }
+
+    // A whole reclaim of a seat at this locale.
+    pub(crate) fn reclaim_seat(
+        &self,
+        seat: &mut TableSeat<C>,
+        locale: u8,
+    ) -> Result<Advanced, NotNow>
+        requires seat { IsSeatOf self.now.words.table seat.old }
+        requires below { (view_of seat.old).number < callers_of self.now }
+        requires registered { (view_of seat.old).part.seat.phase ≡ IsRegistered }
+        requires locale { (locale ≡ (view_of seat.old).part.seat.token.locale) × (locale < (shape_of self.now).locales) }
+        requires hand { (view_of seat.old).part.seat.hand ≡ [] }
+        requires tail { (view_of seat.old).part.seat.homing.tail ≡ None }
+        requires allowed { C.terms.may_reclaim (view_of seat.old).part.client (view_of seat.old).part.seat.owned }
+        ensures seat { IsSeatOf self.now.words.table seat.new }
+        ensures reclaims { Reclaims C.terms C.Object.opens C.Object.step (plan_of self.now) (me_of seat.old) (me_of seat.new) result }
+    {
+        let entered = self.enter(seat, locale);
+        match entered {
+            Ok(epoch) => {
+                let freed = self.release_all(seat, epoch);
+                self.leave_both(seat, locale);
+                Ok(Advanced {
+                    epoch: epoch + 1,
+                    freed,
+                })
+            }
+            Err(fault) => Err(fault),
+        }
+    }
+}
