@@ -1,27 +1,22 @@
 -- What trying locales for an object comes to, one after another.
-use Rattle.std.proofs.Common.{◌≡◌, ◌≢◌, ◌⊎◌, ◌<◌, ◌≤◌, ◌==◌, ◌&&◌, ◌||◌, ◌+◌, ◌++◌, ℕ, Bool, true, false, not, ltb, List, [], ◌∷◌, Option, Some, None, refl, ap, sym, ◌∙◌, subst, inl, inr, ⊎_elim, arith}
+use Rattle.std.proofs.Common.{◌≡◌, ◌≢◌, ◌⊎◌, ◌<◌, ◌≤◌, ◌||◌, ◌+◌, ◌++◌, ℕ, Bool, true, false, ltb, List, [], ◌∷◌, refl, ap, sym, ◌∙◌, subst, inl, inr, ⊎_elim, arith}
 use Rattle.std.proofs.lemmas.Bool.{false≢true, cases_Bool}
 use Rattle.pass_book.specs.declared.entries.Look.{Look}
 use Rattle.pgas_base.specs.Pointers.{Pointer}
 use Rattle.epoch_laws.specs.declared.events.EpochEvent.TheVariants.{Given}
 use Rattle.epoch_laws.specs.Needs.{event}
-use Rattle.epoch_laws.specs.Places.{Place, place_of}
+use Rattle.epoch_laws.specs.Places.{place_of}
 use Rattle.epoch_laws.specs.Seats.{is_reclaiming}
 use Rattle.epoch_laws.specs.StackSteps.{last_stack_count}
-use Rattle.epoch_laws.specs.States.{IsPlace}
 use Rattle.epoch_laws.specs.Words.{WordName}
 use Rattle.epoch_table.specs.declared.parts.Plan.{Plan}
-use Rattle.epoch_table.specs.declared.parts.Part.{Part}
 use Rattle.epoch_table.specs.Clients.{ClientTerms, Takes}
 use Rattle.epoch_table.specs.Kinds.{entries_of_items}
-use Rattle.epoch_manager.specs.declared.faults.TakeFault.{TakeFault}
 use Rattle.epoch_manager.specs.declared.faults.TakeFault.TheVariants.{NoRoom, Spent as LastCount}
-use Rattle.epoch_manager.specs.declared.gets.Get.TheVariants.{Got, Empty, Spent}
-use Rattle.epoch_manager.specs.declared.gets.Tried.{Tried}
-use Rattle.epoch_manager.specs.declared.gets.Tried.TheVariants.{Taken, Missed}
+use Rattle.epoch_manager.specs.declared.gets.Get.TheVariants.{Empty, Spent}
 use Rattle.epoch_manager.specs.Takes.{later, last_header, last_head, is_spent, IsTakenHeader}
 use Rattle.epoch_manager.specs.TakeCalls.{Refuses}
-use Rattle.epoch_manager.specs.TakeSeats.{Has, IsEmptyHanded, IsKnowing, SeatOf, Under, Gets, Scans, TakesOne, Misses, Tries, MayTry, is_one, is_within}
+use Rattle.epoch_manager.specs.TakeSeats.{IsEmptyHanded, SeatOf, Under, Gets, Scans, TakesOne, Misses, MayTry, is_one, is_within}
 use Rattle.epoch_manager.proofs.HeaderTakes.{knowing_still}
 use Rattle.epoch_manager.proofs.Takes.{headers-append, heads-append, headers_before, headers_after, unspent_later, spent_later, under_none, under_then, after_under, number_still, has_still, can_still}
 use Rattle.epoch_manager.proofs.TokenSteps.{Goes}

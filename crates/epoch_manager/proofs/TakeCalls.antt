@@ -1,16 +1,14 @@
 -- What the clauses of a take say.
-use Rattle.std.proofs.Common.{◌≡◌, ◌&&◌, ◌==◌, ◌<◌, ◌≤◌, ◌+◌, ℕ, Bool, true, false, List, [], ◌∷◌, Option, Some, None, Result, Ok, Err, map, refl, ap, ap₂, sym, ◌∙◌, subst, inl, inr, ⊎_elim, arith}
+use Rattle.std.proofs.Common.{◌≡◌, ◌&&◌, ◌==◌, ℕ, Bool, true, false, List, [], ◌∷◌, Result, Ok, Err, map, refl, ap, ap₂, sym, ◌∙◌, subst, inl, inr, ⊎_elim, arith}
 use Rattle.std.specs.Prelude.{is_some, is_none, not, unwrap_or}
 use Rattle.std.proofs.lemmas.Bool.{false≢true}
 use Rattle.pass_book.specs.declared.entries.Look.{Look}
-use Rattle.pgas_base.specs.declared.shapes.Shape.{Shape}
 use Rattle.pgas_base.specs.Pointers.{Pointer}
 use Rattle.pgas_base.specs.Shapes.{IsShape}
 use Rattle.epoch_laws.specs.declared.events.EpochEvent.TheVariants.{Given}
 use Rattle.epoch_laws.specs.Needs.{event}
 use Rattle.epoch_laws.specs.Places.{Place, place_of, same_token}
 use Rattle.epoch_laws.specs.Seats.{Seat, is_reclaiming}
-use Rattle.epoch_laws.specs.States.{IsPlace}
 use Rattle.epoch_laws.specs.Words.{WordName}
 use Rattle.epoch_table.specs.declared.parts.Plan.{Plan}
 use Rattle.epoch_table.specs.declared.parts.Part.{Part}
@@ -21,11 +19,11 @@ use Rattle.epoch_manager.specs.declared.faults.TakeFault.{TakeFault}
 use Rattle.epoch_manager.specs.declared.faults.TakeFault.TheVariants.{NoRoom, Spent}
 use Rattle.epoch_manager.specs.declared.phases.Phase.{Phase}
 use Rattle.epoch_manager.specs.declared.phases.Phase.TheVariants.{Idle, Registered, Pinned}
-use Rattle.epoch_manager.specs.Fits.{is_nil, is_idle, is_registered, is_pinned, stands_as, is_done, is_place, are_known, may_hold, IsKept, PassFits}
+use Rattle.epoch_manager.specs.Fits.{is_nil, is_idle, is_registered, is_pinned, stands_as, is_done, is_place, are_known, may_hold, PassFits}
 use Rattle.epoch_manager.specs.Managers.{pointer_of, pointers}
 use Rattle.epoch_manager.specs.TakeCalls.{owned_then, knows_then, IsInside, TakeReads, IsTold, Refuses, TakesSeat}
 use Rattle.epoch_manager.specs.Takes.{TakeCause, CanSpend, taken_items}
-use Rattle.epoch_manager.specs.TakeSeats.{Has, IsKnowing, IsEmptyHanded, TakesOne, MayTry}
+use Rattle.epoch_manager.specs.TakeSeats.{IsKnowing, IsEmptyHanded, TakesOne, MayTry}
 use Rattle.epoch_manager.proofs.HoldClauses.{known_one}
 use Rattle.epoch_manager.proofs.Known.{both, and_so, some_so, so_place, known_agree, pointers_agree}
 use Rattle.epoch_manager.proofs.ObjectSteps.{rests_so}

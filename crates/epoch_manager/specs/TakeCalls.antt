@@ -1,5 +1,5 @@
 -- What a take does to its pass, by its answer.
-use Rattle.std.specs.Prelude.{◌≡◌, ◌≤◌, ℕ, List, ◌∷◌, Some, Result, Ok, Err}
+use Rattle.std.specs.Prelude.{◌≡◌, ℕ, List, ◌∷◌, Some, Result, Ok, Err}
 use Rattle.pass_book.specs.declared.entries.Look.{Look}
 use Rattle.pgas_base.specs.declared.shapes.Shape.{Shape}
 use Rattle.pgas_base.specs.Pointers.{Pointer}
@@ -11,7 +11,7 @@ use Rattle.epoch_laws.specs.Words.{WordName}
 use Rattle.epoch_table.specs.declared.parts.Plan.{Plan}
 use Rattle.epoch_table.specs.Clients.{ClientTerms, Takes}
 use Rattle.epoch_manager.specs.declared.faults.TakeFault.{TakeFault}
-use Rattle.epoch_manager.specs.declared.faults.TakeFault.TheVariants.{NoRoom, Spent}
+use Rattle.epoch_manager.specs.declared.faults.TakeFault.TheVariants.{Spent}
 use Rattle.epoch_manager.specs.Takes.{last_header, TakeCause, TakeTells, CanSpend}
 use Rattle.epoch_manager.specs.TakeSeats.{SeatOf, Under, IsEmptyHanded, TakesOne}
 

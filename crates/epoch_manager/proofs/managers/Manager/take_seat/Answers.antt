@@ -1,4 +1,4 @@
-use Rattle.std.proofs.Common.{false, true, sym}
+use Rattle.std.proofs.Common.{true, sym}
 use Rattle.std.proofs.lemmas.Bool.{false≢true}
 use Rattle.pass_table.specs.Passes.{me_of}
 use Rattle.epoch_manager.specs.Managers.{plan_of}
