@@ -1,5 +1,5 @@
 -- A locale's chain of objects that came home is taken.
-use Rattle.std.proofs.Common.{◌≡◌, ◌≢◌, ◌<◌, ℕ, false, [], ◌∷◌, Option, Some, None, refl, ap, sym, ◌∙◌, subst, ⊎_elim}
+use Rattle.std.proofs.Common.{◌≡◌, ◌≢◌, ◌<◌, ℕ, false, [], ◌∷◌, None, refl, ap, sym, ◌∙◌, subst, ⊎_elim}
 use Rattle.pgas_base.specs.Pointers.{Pointer, IsPointer, word_of}
 use Rattle.epoch_laws.specs.declared.steps.Kind.TheVariants.{HomeTake}
 use Rattle.epoch_laws.specs.ChainWords.{IsChainWord}
@@ -14,7 +14,7 @@ use Rattle.epoch_table.specs.declared.parts.Part.{Part}
 use Rattle.epoch_table.specs.Clients.{ClientTerms}
 use Rattle.epoch_table.specs.Kinds.{MayMake, Makes}
 use Rattle.epoch_manager.specs.declared.gets.Get.{Get}
-use Rattle.epoch_manager.specs.declared.gets.Get.TheVariants.{Got, Empty, Spent}
+use Rattle.epoch_manager.specs.declared.gets.Get.TheVariants.{Got, Empty}
 use Rattle.epoch_manager.specs.TakeSeats.{Has, IsEmptyHanded, HasOne, SeatOf, Reads, Gets, Walks, WalksRest, IsChained, HoldsRest}
 use Rattle.epoch_manager.proofs.HandChains.{small_of}
 use Rattle.epoch_manager.proofs.TakeRows.{home_take_row, home_take_told}

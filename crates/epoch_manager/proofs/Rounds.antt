@@ -1,29 +1,26 @@
 -- What trying locales for an object comes to, one after another.
-use Rattle.std.proofs.Common.{◌≡◌, ◌≢◌, ◌⊎◌, ◌<◌, ◌≤◌, ◌==◌, ◌&&◌, ◌||◌, ◌+◌, ◌++◌, ℕ, Bool, true, false, not, ltb, List, [], ◌∷◌, Option, Some, None, refl, ap, sym, ◌∙◌, subst, inl, inr, ⊎_elim, arith}
+use Rattle.std.proofs.Common.{Option, Some, None, ◌≡◌, ◌≢◌, ◌⊎◌, ◌<◌, ◌≤◌, ◌||◌, ◌+◌, ◌++◌, ℕ, Bool, true, false, ltb, List, [], ◌∷◌, refl, ap, sym, ◌∙◌, subst, inl, inr, ⊎_elim, arith}
 use Rattle.std.proofs.lemmas.Bool.{false≢true, cases_Bool}
+use Rattle.std.specs.Prelude.{is_some}
 use Rattle.pass_book.specs.declared.entries.Look.{Look}
 use Rattle.pgas_base.specs.Pointers.{Pointer}
 use Rattle.epoch_laws.specs.declared.events.EpochEvent.TheVariants.{Given}
 use Rattle.epoch_laws.specs.Needs.{event}
-use Rattle.epoch_laws.specs.Places.{Place, place_of}
+use Rattle.epoch_laws.specs.Places.{place_of}
 use Rattle.epoch_laws.specs.Seats.{is_reclaiming}
 use Rattle.epoch_laws.specs.StackSteps.{last_stack_count}
-use Rattle.epoch_laws.specs.States.{IsPlace}
 use Rattle.epoch_laws.specs.Words.{WordName}
 use Rattle.epoch_table.specs.declared.parts.Plan.{Plan}
-use Rattle.epoch_table.specs.declared.parts.Part.{Part}
 use Rattle.epoch_table.specs.Clients.{ClientTerms, Takes}
 use Rattle.epoch_table.specs.Kinds.{entries_of_items}
-use Rattle.epoch_manager.specs.declared.faults.TakeFault.{TakeFault}
 use Rattle.epoch_manager.specs.declared.faults.TakeFault.TheVariants.{NoRoom, Spent as LastCount}
+use Rattle.epoch_manager.specs.declared.gets.Get.{Get}
 use Rattle.epoch_manager.specs.declared.gets.Get.TheVariants.{Got, Empty, Spent}
-use Rattle.epoch_manager.specs.declared.gets.Tried.{Tried}
-use Rattle.epoch_manager.specs.declared.gets.Tried.TheVariants.{Taken, Missed}
-use Rattle.epoch_manager.specs.Takes.{later, last_header, last_head, is_spent, IsTakenHeader}
+use Rattle.epoch_manager.specs.Takes.{IsTriedFirst, later, last_header, last_head, is_spent, IsTakenHeader}
 use Rattle.epoch_manager.specs.TakeCalls.{Refuses}
-use Rattle.epoch_manager.specs.TakeSeats.{Has, IsEmptyHanded, IsKnowing, SeatOf, Under, Gets, Scans, TakesOne, Misses, Tries, MayTry, is_one, is_within}
+use Rattle.epoch_manager.specs.TakeSeats.{IsEmptyHanded, SeatOf, Under, Reads, Gets, GetsHead, Scans, TakesOne, Misses, MayTry, is_one, is_within}
 use Rattle.epoch_manager.proofs.HeaderTakes.{knowing_still}
-use Rattle.epoch_manager.proofs.Takes.{headers-append, heads-append, headers_before, headers_after, unspent_later, spent_later, under_none, under_then, after_under, number_still, has_still, can_still}
+use Rattle.epoch_manager.proofs.Takes.{headers-append, heads-append, headers_before, headers_after, unspent_later, spent_later, under_none, under_then, after_under, number_still, has_still, can_still, reads_then, gets_then}
 use Rattle.epoch_manager.proofs.TokenSteps.{Goes}
 
 one_so : (l k : ℕ) → is_one l k ≡ true → k ≡ l
@@ -39,6 +36,18 @@ one_here l = grind arith
 pub either_so : (a b : Bool) → (a || b) ≡ true → (a ≡ true) ⊎ (b ≡ true)
 either_so true b is = inl refl
 either_so false b is = inr is
+
+spent_some : (a : Option ℕ) → is_spent a ≡ true → is_some a ≡ true
+spent_some None is = absurd (false≢true is)
+spent_some (Some w) is = refl
+
+some_first : (a b : Option ℕ) → is_some a ≡ true → is_some (later a b) ≡ true
+some_first a None is = is
+some_first a (Some w) is = refl
+
+some_second : (a b : Option ℕ) → is_some b ≡ true → is_some (later a b) ≡ true
+some_second a None is = absurd (false≢true is)
+some_second a (Some w) is = refl
 
 pub neither_so : (a b : Bool) → (a || b) ≡ false → (a ≡ false) × (b ≡ false)
 neither_so true b is = absurd (false≢true (sym is))
@@ -77,6 +86,12 @@ all_locales first many low = record {
   seconds = λ k a. grind arith;
 }
 
+pub first_within : (from l : ℕ) → from < l → is_within from l from ≡ true
+first_within from l low = grind arith
+
+least : (from l : ℕ) → from ≤ l → (from < l) ⊎ (from ≡ l)
+least from l low = ⊎_elim (λ t. inl (grind arith)) (λ t. inr (grind arith)) (cases_Bool (ltb from l))
+
 below_all : (l many : ℕ) → is_within 0 many l ≡ true → l < many
 below_all l many is = grind arith
 
@@ -90,6 +105,13 @@ module _ {C View' Call Reply State' : Type 0} (K : ClientTerms C View' Call Repl
   abbrev S : Type 0
   S = SeatOf K opens step plan
 
+  -- what getting an object comes to, after the head was read
+  pub head_then : (l : ℕ) (m k n : S) (result : Get) (head : Option ℕ) → Reads K opens step plan l m k head → is_spent head ≡ false → is_some head ≡ true → Gets K opens step plan l k n result → GetsHead K opens step plan l m n result
+  head_then l m k n (Got i) head a unspent some g = gets_then K opens step plan l m k n (Got i) head a unspent g
+  head_then l m k n Empty head a unspent some g =
+      (later head g.0, reads_then K opens step plan l m k n head g.0 a g.1, g.2, unspent_later head g.0 unspent g.3, some_first head g.0 some)
+  head_then l m k n Spent head a unspent some g = gets_then K opens step plan l m k n Spent head a unspent g
+
   -- ---- one locale
 
   pub spent_misses : (l : ℕ) (m n : S) → Gets K opens step plan l m n Spent → Misses K opens step plan (is_one l) m n true false
@@ -102,11 +124,12 @@ module _ {C View' Call Reply State' : Type 0} (K : ClientTerms C View' Call Repl
         can_spend = λ t. g.4;
         unspent = λ f. absurd (false≢true (sym f));
         heads = λ k off. reads.heads k (other_so l k off);
+        seen = λ k on. ap is_some (ap (last_head reads.looks) (one_so l k on) ∙ reads.head_so) ∙ spent_some g.0 g.3;
         others = λ p off. reads.unheaded p;
         taken = λ f. absurd (false≢true (sym f));
       }
 
-  pub empty_misses : (l : ℕ) (m k n : S) (free : Bool) → Gets K opens step plan l m k Empty → Scans K opens step plan l plan.shape.objects k n free → Misses K opens step plan (is_one l) m n false free
+  pub empty_misses : (l : ℕ) (m k n : S) (free : Bool) → GetsHead K opens step plan l m k Empty → Scans K opens step plan l plan.shape.objects k n free → Misses K opens step plan (is_one l) m n false free
   empty_misses l m k n free g scans =
       let reads = g.1 in
       let xs = reads.looks in
@@ -121,14 +144,15 @@ module _ {C View' Call Reply State' : Type 0} (K : ClientTerms C View' Call Repl
             ap is_spent (head i)
             ∙ ⊎_elim (λ t. ap is_spent (ap (last_head xs) (one_so l i t) ∙ reads.head_so) ∙ g.3) (λ off. ap is_spent (reads.heads i (other_so l i off))) (cases_Bool (is_one l i));
         heads = λ i off. head i ∙ reads.heads i (other_so l i off);
+        seen = λ i on. ap is_some (head i ∙ (ap (last_head xs) (one_so l i on) ∙ reads.head_so)) ∙ g.4;
         others = λ p off. headers_before xs ys p (scans.others p (inl (other_so l p.locale off))) ∙ reads.unheaded p;
         taken = λ f none p on inside. headers_after xs ys p (scans.taken none p (one_so l p.locale on) inside.some_object inside.index);
       }
 
   -- ---- locales so far, and then others
 
-  pub misses_none : (among : ℕ → Bool) (m : S) (free : Bool) → (free ≡ false → (l : ℕ) → among l ≡ false) → IsEmptyHanded m.0.part → Misses K opens step plan among m m false free
-  misses_none among m free nobody empty = record {
+  pub misses_none : (among : ℕ → Bool) (m : S) → ((l : ℕ) → among l ≡ false) → IsEmptyHanded m.0.part → Misses K opens step plan among m m false false
+  misses_none among m nobody empty = record {
     looks = [];
     under = under_none K opens step plan m;
     rests = empty;
@@ -136,8 +160,9 @@ module _ {C View' Call Reply State' : Type 0} (K : ClientTerms C View' Call Repl
     can_spend = λ t. absurd (false≢true t);
     unspent = λ f l. refl;
     heads = λ l off. refl;
+    seen = λ l on. absurd (false≢true (sym (nobody l) ∙ on));
     others = λ p off. refl;
-    taken = λ f none p on. absurd (false≢true (sym (nobody none p.locale) ∙ on));
+    taken = λ f none p on. absurd (false≢true (sym (nobody p.locale) ∙ on));
   }
 
   module _ (m k n : S) (a b : Bool) where
@@ -166,6 +191,9 @@ module _ {C View' Call Reply State' : Type 0} (K : ClientTerms C View' Call Repl
         heads = λ l off.
             heads-append xs ys l
             ∙ (ap (later (last_head xs l)) (now.heads l (not_so (those l) (all l) (parts.seconds l) off)) ∙ was.heads l (not_so (these l) (all l) (parts.firsts l) off));
+        seen = λ l on.
+            ap is_some (heads-append xs ys l)
+            ∙ ⊎_elim (λ first. some_first (last_head xs l) (last_head ys l) (was.seen l first)) (λ second. some_second (last_head xs l) (last_head ys l) (now.seen l second)) (parts.either l on);
         others = λ p off.
             headers_before xs ys p (now.others p (not_so (those p.locale) (all p.locale) (parts.seconds p.locale) off))
             ∙ was.others p (not_so (these p.locale) (all p.locale) (parts.firsts p.locale) off);
@@ -180,73 +208,102 @@ module _ {C View' Call Reply State' : Type 0} (K : ClientTerms C View' Call Repl
             (parts.either p.locale on);
       }
 
-    -- a round after rounds that met no last count
-    pub misses_again : (all : ℕ → Bool) (f : Bool) → Misses K opens step plan all m k false f → Misses K opens step plan all k n a b → Misses K opens step plan all m n a b
-    misses_again all f was now = record {
-      looks = was.looks ++ now.looks;
-      under = under_then K opens step plan m k n was.looks now.looks was.under now.under;
-      rests = now.rests;
-      spends = λ t.
-          let l = now.spends t in
-          (l.0, l.1, ap is_spent (heads-append was.looks now.looks l.0) ∙ spent_later (last_head was.looks l.0) (last_head now.looks l.0) l.2);
-      can_spend = now.can_spend;
-      unspent = λ unspent l. ap is_spent (heads-append was.looks now.looks l) ∙ unspent_later (last_head was.looks l) (last_head now.looks l) (was.unspent refl l) (now.unspent unspent l);
-      heads = λ l off. heads-append was.looks now.looks l ∙ (ap (later (last_head was.looks l)) (now.heads l off) ∙ was.heads l off);
-      others = λ p off. headers_before was.looks now.looks p (now.others p off) ∙ was.others p off;
-      taken = λ unspent none p on inside. headers_after was.looks now.looks p (now.taken unspent none p on inside);
-    }
-
   -- an object that is taken after steps of no entry
-  pub takes_after : (m k n : S) (looks : List (Look WordName)) (q : Pointer) → Under K opens step plan m k looks → TakesOne K opens step plan k n q → TakesOne K opens step plan m n q
-  takes_after m k n looks q under takes =
-      let same = under.same in record {
-        looks = looks ++ takes.looks;
-        free = headers-append looks takes.looks (place_of q) ∙ ap (later (last_header looks (place_of q))) takes.free;
-        goes =
-            after_under K opens step plan m k n looks takes.looks (entries_of_items m.0.number (event m.0.number (Given q))) n.0.part under
-            (subst (λ c. Goes K opens step plan k n takes.looks (entries_of_items c (event c (Given q))) n.0.part) (number_still K opens step plan m k looks under) takes.goes);
-        phase = takes.phase ∙ same.phase;
-        token = takes.token ∙ same.token;
-        owned = takes.owned ∙ ap (λ o. record { locale = q.locale; index = q.index } ∷ o) same.owned;
-        held = takes.held ∙ same.held;
-        reclaim = takes.reclaim ∙ same.reclaim;
-        client = takes.client ∙ ap (λ v. K.after v (Takes q) 0) same.client;
-        rests = takes.rests;
-        inside = takes.inside;
-        count = takes.count;
-        counts = λ p has. takes.counts p (has_still K opens step plan m.0.part k.0.part same p has) ∙ same.counts p has;
-      }
+  pub takes_after : (first : ℕ) (m k n : S) (looks : List (Look WordName)) (q : Pointer) → Under K opens step plan m k looks → (takes : TakesOne K opens step plan k n q) → IsTriedFirst first q takes.looks ⊎ (is_some (last_head looks first) ≡ true)
+      → (all : TakesOne K opens step plan m n q) × IsTriedFirst first q all.looks
+  takes_after first m k n looks q under takes how =
+      let same = under.same in
+      let head = ap is_some (heads-append looks takes.looks first) in
+      let some : IsTriedFirst first q (looks ++ takes.looks) =
+      ⊎_elim (λ f. ⊎_elim inl (λ t. inr (head ∙ some_second (last_head looks first) (last_head takes.looks first) t)) f) (λ t. inr (head ∙ some_first (last_head looks first) (last_head takes.looks first) t)) how in (
+        record {
+          looks = looks ++ takes.looks;
+          free = headers-append looks takes.looks (place_of q) ∙ ap (later (last_header looks (place_of q))) takes.free;
+          goes =
+              after_under K opens step plan m k n looks takes.looks (entries_of_items m.0.number (event m.0.number (Given q))) n.0.part under
+              (subst (λ c. Goes K opens step plan k n takes.looks (entries_of_items c (event c (Given q))) n.0.part) (number_still K opens step plan m k looks under) takes.goes);
+          phase = takes.phase ∙ same.phase;
+          token = takes.token ∙ same.token;
+          owned = takes.owned ∙ ap (λ o. record { locale = q.locale; index = q.index } ∷ o) same.owned;
+          held = takes.held ∙ same.held;
+          reclaim = takes.reclaim ∙ same.reclaim;
+          client = takes.client ∙ ap (λ v. K.after v (Takes q) 0) same.client;
+          rests = takes.rests;
+          inside = takes.inside;
+          count = takes.count;
+          counts = λ p has. takes.counts p (has_still K opens step plan m.0.part k.0.part same p has) ∙ same.counts p has;
+        },
+        some,
+      )
+
+  -- an object of a later locale is taken after the first was tried
+  pub range_takes : (from l : ℕ) (m k n : S) (spent free : Bool) → Misses K opens step plan (is_within from l) m k spent free → (q : Pointer) → (takes : TakesOne K opens step plan k n q) × IsTriedFirst l q takes.looks → from ≤ l
+      → (all : TakesOne K opens step plan m n q) × IsTriedFirst from q all.looks
+  range_takes from l m k n spent free was q tries low =
+      ⊎_elim
+      (λ more. takes_after from m k n was.looks q was.under tries.0 (inr (was.seen from (first_within from l more))))
+      (λ same. takes_after from m k n was.looks q was.under tries.0 (inl (subst (λ i. IsTriedFirst i q tries.0.looks) (sym same) tries.1)))
+      (least from l low)
 
   -- the next locales may be tried
-  pub may_still : (m k : S) (among : ℕ → Bool) (spent free : Bool) → Misses K opens step plan among m k spent free → MayTry K opens step plan m.0.number m.0.part → MayTry K opens step plan k.0.number k.0.part
-  may_still m k among spent free was may =
-      let same = was.under.same in
-      let number = number_still K opens step plan m k was.looks was.under in
+  pub may_still : (m k : S) (looks : List (Look WordName)) → Under K opens step plan m k looks → IsEmptyHanded k.0.part → MayTry K opens step plan m.0.number m.0.part → MayTry K opens step plan k.0.number k.0.part
+  may_still m k looks under rests may =
+      let same = under.same in
+      let number = number_still K opens step plan m k looks under in
       let low = may.below in
       record {
         below = omega (arith, low, number);
         quiet = ap is_reclaiming same.phase ∙ may.quiet;
-        empty = was.rests;
-        known = knowing_still K opens step plan m k was.looks was.under may.known;
+        empty = rests;
+        known = knowing_still K opens step plan m k looks under may.known;
         allowed = subst (λ o. K.may_take k.0.part.client o) (sym same.owned) (subst (λ v. K.may_take v m.0.part.seat.owned) (sym same.client) may.allowed);
       }
 
-  -- ---- how a round ends a take
+  -- ---- rounds
 
-  pub spent_refuses : (asked : ℕ) (m n : S) (spent free : Bool) → spent ≡ true → Misses K opens step plan (is_within 0 plan.shape.locales) m n spent free → Refuses K opens step plan asked (LastCount last_stack_count) m n
-  spent_refuses asked m n spent free is x =
-      let l = x.spends is in
-      record { looks = x.looks; under = x.under; rests = x.rests; cause = (l.0, below_all l.0 plan.shape.locales l.1, l.2); tells = refl; can_spend = λ count e. x.can_spend is }
+  -- rounds that met no last count, and got no object
+  pub record HasGone (m n : S) : Type 0 where
+    pub looks : List (Look WordName)
+    pub under : Under K opens step plan m n looks
+    pub rests : IsEmptyHanded n.0.part
+    pub unspent : (l : ℕ) → is_spent (last_head looks l) ≡ false
 
-  pub no_room_refuses : (asked : ℕ) (m n : S) (spent free : Bool) → spent ≡ false → free ≡ false → Misses K opens step plan (is_within 0 plan.shape.locales) m n spent free → Refuses K opens step plan asked (NoRoom asked) m n
-  no_room_refuses asked m n spent free unspent none x = record {
-    looks = x.looks;
-    under = x.under;
-    rests = x.rests;
-    cause = record { unspent = λ l low. x.unspent unspent l; taken = λ p inside. x.taken unspent none p (all_below p.locale plan.shape.locales inside.locale) inside };
-    tells = refl;
-    can_spend = λ count e. absurd cc;
-  }
+  pub gone_none : (m : S) → IsEmptyHanded m.0.part → HasGone m m
+  gone_none m empty = record { looks = []; under = under_none K opens step plan m; rests = empty; unspent = λ l. refl }
 
-  pub round_again : (among : ℕ → Bool) (m n : S) (spent free : Bool) → spent ≡ false → free ≡ true → Misses K opens step plan among m n spent free → Misses K opens step plan among m n false true
-  round_again among m n spent free unspent some x = subst (λ b. Misses K opens step plan among m n b true) unspent (subst (λ b. Misses K opens step plan among m n spent b) some x)
+  module _ (m k n : S) (was : HasGone m k) (spent free : Bool) (now : Misses K opens step plan (is_within 0 plan.shape.locales) k n spent free) where
+    abbrev all_looks : List (Look WordName)
+    all_looks = was.looks ++ now.looks
+
+    all_under : Under K opens step plan m n all_looks
+    all_under = under_then K opens step plan m k n was.looks now.looks was.under now.under
+
+    all_unspent : spent ≡ false → (l : ℕ) → is_spent (last_head all_looks l) ≡ false
+    all_unspent unspent l = ap is_spent (heads-append was.looks now.looks l) ∙ unspent_later (last_head was.looks l) (last_head now.looks l) (was.unspent l) (now.unspent unspent l)
+
+    pub gone_on : spent ≡ false → HasGone m n
+    gone_on unspent = record { looks = all_looks; under = all_under; rests = now.rests; unspent = all_unspent unspent }
+
+    pub spent_refuses : (asked : ℕ) → spent ≡ true → Refuses K opens step plan asked (LastCount last_stack_count) m n
+    spent_refuses asked is =
+        let l = now.spends is in record {
+          looks = all_looks;
+          under = all_under;
+          rests = now.rests;
+          cause = (l.0, below_all l.0 plan.shape.locales l.1, ap is_spent (heads-append was.looks now.looks l.0) ∙ spent_later (last_head was.looks l.0) (last_head now.looks l.0) l.2);
+          tells = refl;
+          can_spend = λ count e. now.can_spend is;
+        }
+
+    pub no_room_refuses : (asked : ℕ) → spent ≡ false → free ≡ false → Refuses K opens step plan asked (NoRoom asked) m n
+    no_room_refuses asked unspent none = record {
+      looks = all_looks;
+      under = all_under;
+      rests = now.rests;
+      cause = record {
+        unspent = λ l low. all_unspent unspent l;
+        taken = λ p inside. headers_after was.looks now.looks p (now.taken unspent none p (all_below p.locale plan.shape.locales inside.locale) inside);
+      };
+      tells = refl;
+      can_spend = λ count e. absurd cc;
+    }

@@ -1,16 +1,14 @@
 -- What the clauses of a take say.
-use Rattle.std.proofs.Common.{◌≡◌, ◌&&◌, ◌==◌, ◌<◌, ◌≤◌, ◌+◌, ℕ, Bool, true, false, List, [], ◌∷◌, Option, Some, None, Result, Ok, Err, map, refl, ap, ap₂, sym, ◌∙◌, subst, inl, inr, ⊎_elim, arith}
+use Rattle.std.proofs.Common.{◌≡◌, ◌&&◌, ◌==◌, ℕ, Bool, true, false, List, [], ◌∷◌, Result, Ok, Err, map, refl, ap, ap₂, sym, ◌∙◌, subst, inl, inr, ⊎_elim, arith}
 use Rattle.std.specs.Prelude.{is_some, is_none, not, unwrap_or}
 use Rattle.std.proofs.lemmas.Bool.{false≢true}
 use Rattle.pass_book.specs.declared.entries.Look.{Look}
-use Rattle.pgas_base.specs.declared.shapes.Shape.{Shape}
 use Rattle.pgas_base.specs.Pointers.{Pointer}
 use Rattle.pgas_base.specs.Shapes.{IsShape}
 use Rattle.epoch_laws.specs.declared.events.EpochEvent.TheVariants.{Given}
 use Rattle.epoch_laws.specs.Needs.{event}
 use Rattle.epoch_laws.specs.Places.{Place, place_of, same_token}
 use Rattle.epoch_laws.specs.Seats.{Seat, is_reclaiming}
-use Rattle.epoch_laws.specs.States.{IsPlace}
 use Rattle.epoch_laws.specs.Words.{WordName}
 use Rattle.epoch_table.specs.declared.parts.Plan.{Plan}
 use Rattle.epoch_table.specs.declared.parts.Part.{Part}
@@ -21,11 +19,11 @@ use Rattle.epoch_manager.specs.declared.faults.TakeFault.{TakeFault}
 use Rattle.epoch_manager.specs.declared.faults.TakeFault.TheVariants.{NoRoom, Spent}
 use Rattle.epoch_manager.specs.declared.phases.Phase.{Phase}
 use Rattle.epoch_manager.specs.declared.phases.Phase.TheVariants.{Idle, Registered, Pinned}
-use Rattle.epoch_manager.specs.Fits.{is_nil, is_idle, is_registered, is_pinned, stands_as, is_done, is_place, are_known, may_hold, IsKept, PassFits}
+use Rattle.epoch_manager.specs.Fits.{is_nil, is_idle, is_registered, is_pinned, stands_as, is_done, is_place, are_known, may_hold, PassFits}
 use Rattle.epoch_manager.specs.Managers.{pointer_of, pointers}
 use Rattle.epoch_manager.specs.TakeCalls.{owned_then, knows_then, IsInside, TakeReads, IsTold, Refuses, TakesSeat}
 use Rattle.epoch_manager.specs.Takes.{TakeCause, CanSpend, taken_items}
-use Rattle.epoch_manager.specs.TakeSeats.{Has, IsKnowing, IsEmptyHanded, TakesOne, MayTry}
+use Rattle.epoch_manager.specs.TakeSeats.{IsKnowing, IsEmptyHanded, TakesOne, MayTry}
 use Rattle.epoch_manager.proofs.HoldClauses.{known_one}
 use Rattle.epoch_manager.proofs.Known.{both, and_so, some_so, so_place, known_agree, pointers_agree}
 use Rattle.epoch_manager.proofs.ObjectSteps.{rests_so}
@@ -156,36 +154,36 @@ module _ {C View' Call Reply State' : Type 0} (K : ClientTerms C View' Call Repl
 
       -- either
       abbrev pub words_of : (asked : ℕ) (result : Result Pointer TakeFault) → TakesSeat K opens step plan asked m n result → List (Look WordName)
-      words_of asked (Ok q) takes = takes.looks
+      words_of asked (Ok q) takes = takes.0.looks
       words_of asked (Err fault) refuses = refuses.looks
 
       module _ (shaped : IsShape plan.shape) (asked : ℕ) where
         pub take_done : (result : Result Pointer TakeFault) (takes : TakesSeat K opens step plan asked m n result) → Done K opens step plan m n (words_of asked result takes) (taken_items m.0.number result) now phase
-        take_done (Ok q) takes = taken_done q takes
+        take_done (Ok q) takes = taken_done q takes.0
         take_done (Err fault) refuses = refused_done shaped asked fault refuses
 
-        pub take_reads : (result : Result Pointer TakeFault) (takes : TakesSeat K opens step plan asked m n result) → TakeReads plan.shape result (words_of asked result takes)
-        take_reads (Ok q) takes = takes.free
+        pub take_reads : (result : Result Pointer TakeFault) (takes : TakesSeat K opens step plan asked m n result) → TakeReads plan.shape asked result (words_of asked result takes)
+        take_reads (Ok q) takes = (takes.0.free, takes.1)
         take_reads (Err fault) refuses = refuses.cause
 
         pub take_owned : (result : Result Pointer TakeFault) → TakesSeat K opens step plan asked m n result → pointers now.facts now.seat.owned ≡ owned_then (pointers was.facts was.seat.owned) result
-        take_owned (Ok q) takes = taken_owned q takes
+        take_owned (Ok q) takes = taken_owned q takes.0
         take_owned (Err fault) refuses = refused_owned shaped asked fault refuses
 
         pub take_held : (result : Result Pointer TakeFault) → TakesSeat K opens step plan asked m n result → pointers now.facts now.seat.held ≡ pointers was.facts was.seat.held
-        take_held (Ok q) takes = taken_held q takes
+        take_held (Ok q) takes = taken_held q takes.0
         take_held (Err fault) refuses = refused_held shaped asked fault refuses
 
         pub take_same : (result : Result Pointer TakeFault) → TakesSeat K opens step plan asked m n result → now.seat.held ≡ was.seat.held
-        take_same (Ok q) takes = takes.held
+        take_same (Ok q) takes = takes.0.held
         take_same (Err fault) refuses = refuses.under.same.held
 
         pub take_knows : (result : Result Pointer TakeFault) → TakesSeat K opens step plan asked m n result → now.client ≡ knows_then K was.client result
-        take_knows (Ok q) takes = takes.client
+        take_knows (Ok q) takes = takes.0.client
         take_knows (Err fault) refuses = refuses.under.same.client
 
         pub take_inside : (result : Result Pointer TakeFault) → TakesSeat K opens step plan asked m n result → IsInside plan.shape result
-        take_inside (Ok q) takes = takes.inside
+        take_inside (Ok q) takes = takes.0.inside
         take_inside (Err fault) refuses = tt
 
         pub take_told : (result : Result Pointer TakeFault) → TakesSeat K opens step plan asked m n result → IsTold asked result

@@ -1,5 +1,5 @@
 -- What the steps of a take do to its caller's seat.
-use Rattle.std.specs.Prelude.{◌≡◌, ◌≢◌, ◌⊎◌, ◌<◌, ◌≤◌, ◌==◌, ◌&&◌, ℕ, Bool, true, false, not, ltb, List, [], ◌∷◌, ◌++◌, length, map, Option, Some, None}
+use Rattle.std.specs.Prelude.{◌≡◌, ◌≢◌, ◌⊎◌, ◌<◌, ◌≤◌, ◌==◌, ◌&&◌, ℕ, Bool, true, false, not, ltb, is_some, List, [], ◌∷◌, ◌++◌, length, map, Option, Some, None}
 use Rattle.atomic_table.specs.Table.{Me}
 use Rattle.pass_book.specs.declared.entries.Look.{Look}
 use Rattle.pgas_base.specs.declared.shapes.Shape.{Shape}
@@ -28,7 +28,7 @@ use Rattle.epoch_manager.specs.declared.gets.Get.{Get}
 use Rattle.epoch_manager.specs.declared.gets.Get.TheVariants.{Got, Empty, Spent}
 use Rattle.epoch_manager.specs.declared.gets.Tried.{Tried}
 use Rattle.epoch_manager.specs.declared.gets.Tried.TheVariants.{Taken, Missed}
-use Rattle.epoch_manager.specs.Takes.{last_header, last_head, is_spent, IsTakenHeader, CanSpend}
+use Rattle.epoch_manager.specs.Takes.{IsTriedFirst, last_header, last_head, is_spent, IsTakenHeader, CanSpend}
 
 -- the pass owns or holds the object
 abbrev pub Has : {View' : Type 0} → Part View' → Place → Type 0
@@ -142,6 +142,12 @@ module _ {C View' Call Reply State' : Type 0} (K : ClientTerms C View' Call Repl
   Gets locale m n Empty = (head : Option ℕ) × Reads locale m n head × IsEmptyHanded n.0.part × (is_spent head ≡ false)
   Gets locale m n Spent = (head : Option ℕ) × Reads locale m n head × IsEmptyHanded n.0.part × (is_spent head ≡ true) × CanSpend plan n.0.seen
 
+  -- the same, where the head was read unless an object was got
+  abbrev pub GetsHead : ℕ → SeatOf → SeatOf → Get → Type 0
+  GetsHead locale m n (Got index) = Gets locale m n (Got index)
+  GetsHead locale m n Empty = (head : Option ℕ) × Reads locale m n head × IsEmptyHanded n.0.part × (is_spent head ≡ false) × (is_some head ≡ true)
+  GetsHead locale m n Spent = Gets locale m n Spent
+
   -- the headers of the locale's first objects were read, and one said free, or none did
   pub record Scans (locale number : ℕ) (m n : SeatOf) (free : Bool) : Type 0 where
     pub looks : List (Look WordName)
@@ -226,12 +232,13 @@ module _ {C View' Call Reply State' : Type 0} (K : ClientTerms C View' Call Repl
     pub can_spend : spent ≡ true → CanSpend plan n.0.seen
     pub unspent : spent ≡ false → (l : ℕ) → is_spent (last_head looks l) ≡ false
     pub heads : (l : ℕ) → among l ≡ false → last_head looks l ≡ None
+    pub seen : (l : ℕ) → among l ≡ true → is_some (last_head looks l) ≡ true
     pub others : (p : Place) → among p.locale ≡ false → last_header looks p ≡ None
     pub taken : spent ≡ false → free ≡ false → (p : Place) → among p.locale ≡ true → IsPlace plan.shape p → IsTakenHeader (last_header looks p)
 
-  abbrev pub Tries : (ℕ → Bool) → SeatOf → SeatOf → Tried → Type 0
-  Tries among m n (Taken q) = TakesOne m n q
-  Tries among m n (Missed spent free) = Misses among m n spent free
+  abbrev pub Tries : ℕ → (ℕ → Bool) → SeatOf → SeatOf → Tried → Type 0
+  Tries first among m n (Taken q) = (takes : TakesOne m n q) × IsTriedFirst first q takes.looks
+  Tries first among m n (Missed spent free) = Misses among m n spent free
 
   -- What a seat is before it tries locales: it is in no reclaim, has nothing under way, knows what it has, and is allowed the take
   pub record MayTry (number : ℕ) (part : Part View') : Type 0 where

@@ -1,5 +1,5 @@
 -- What a take does, and the words that are the cause of its answer.
-use Rattle.std.specs.Prelude.{◌≡◌, ◌<◌, ◌≤◌, ◌==◌, ◌+◌, ◌^◌, ℕ, Bool, true, false, if◌then◌else◌, List, [], ◌∷◌, Option, Some, None, Result, Ok, Err}
+use Rattle.std.specs.Prelude.{◌≡◌, ◌⊎◌, is_some, ◌<◌, ◌≤◌, ◌==◌, ◌+◌, ◌^◌, ℕ, Bool, true, false, if◌then◌else◌, List, [], ◌∷◌, Option, Some, None, Result, Ok, Err}
 use Rattle.pass_book.specs.declared.entries.Entry.{Entry}
 use Rattle.pass_book.specs.declared.entries.Look.{Look}
 use Rattle.pgas_base.specs.declared.shapes.Shape.{Shape}
@@ -53,6 +53,10 @@ head_read look l = elim (look.name) [ free_stack k ↦ if k == l then Some look.
 abbrev pub last_head : List (Look WordName) → ℕ → Option ℕ
 last_head [] l = None
 last_head (look ∷ looks) l = later (head_read look l) (last_head looks l)
+
+-- the object is of the locale that is tried first, or the head of that one's stack was read
+abbrev pub IsTriedFirst : ℕ → Pointer → List (Look WordName) → Type 0
+IsTriedFirst first q looks = (q.locale ≡ first) ⊎ (is_some (last_head looks first) ≡ true)
 
 -- a head was read, and its count is the last
 abbrev pub is_spent : Option ℕ → Bool

@@ -11,7 +11,7 @@ ghost use Rattle.epoch_manager.specs.declared.faults.TakeFault.TheVariants.{Spen
 ghost use Rattle.epoch_manager.specs.Managers.{plan_of, opening_of, shape_of, callers_of, pass_opening, phase_of, caller_of, page, owned_by, held_by, knows, IsSamePass, change, ListsItems, ReadsWords};
 ghost use Rattle.epoch_manager.specs.TakeCalls.{owned_then, knows_then, IsInside, TakeReads, IsTold, TakesSeat};
 ghost use Rattle.epoch_manager.specs.Takes.{taken_items, CanSpend};
-ghost use Rattle.epoch_manager.specs.TakeSeats.{IsEmptyHanded, MayTry, Gets, Tries, is_one, is_within};
+ghost use Rattle.epoch_manager.specs.TakeSeats.{IsEmptyHanded, MayTry, GetsHead, Tries, is_one, is_within};
 
 use crate::faults::TakeFault;
 use crate::gets::{Get, Tried};
@@ -32,7 +32,7 @@ impl<C: Client> Manager<C> {
         requires phase { is_reclaiming (view_of seat.old).part.seat.phase ≡ false }
         requires empty { IsEmptyHanded (view_of seat.old).part }
         ensures seat { IsSeatOf self.now.words.table seat.new }
-        ensures gets { Gets C.terms C.Object.opens C.Object.step (plan_of self.now) locale (me_of seat.old) (me_of seat.new) result }
+        ensures gets { GetsHead C.terms C.Object.opens C.Object.step (plan_of self.now) locale (me_of seat.old) (me_of seat.new) result }
     {
         let popped = self.pop(rt, seat, locale);
         match popped {
@@ -48,7 +48,7 @@ impl<C: Client> Manager<C> {
         requires locale { locale < (shape_of self.now).locales }
         requires may { MayTry C.terms C.Object.opens C.Object.step (plan_of self.now) (view_of seat.old).number (view_of seat.old).part }
         ensures seat { IsSeatOf self.now.words.table seat.new }
-        ensures tries { Tries C.terms C.Object.opens C.Object.step (plan_of self.now) (is_one locale) (me_of seat.old) (me_of seat.new) result }
+        ensures tries { Tries C.terms C.Object.opens C.Object.step (plan_of self.now) locale (is_one locale) (me_of seat.old) (me_of seat.new) result }
     {
         let got = self.get(rt, seat, locale);
         match got {
@@ -74,7 +74,7 @@ impl<C: Client> Manager<C> {
         requires locales { to ≤ (shape_of self.now).locales }
         requires may { MayTry C.terms C.Object.opens C.Object.step (plan_of self.now) (view_of seat.old).number (view_of seat.old).part }
         ensures seat { IsSeatOf self.now.words.table seat.new }
-        ensures tries { Tries C.terms C.Object.opens C.Object.step (plan_of self.now) (is_within from to) (me_of seat.old) (me_of seat.new) result }
+        ensures tries { Tries C.terms C.Object.opens C.Object.step (plan_of self.now) from (is_within from to) (me_of seat.old) (me_of seat.new) result }
     {
         let mut spent = false;
         let mut free = false;
@@ -99,7 +99,7 @@ impl<C: Client> Manager<C> {
         requires locale { first < (shape_of self.now).locales }
         requires may { MayTry C.terms C.Object.opens C.Object.step (plan_of self.now) (view_of seat.old).number (view_of seat.old).part }
         ensures seat { IsSeatOf self.now.words.table seat.new }
-        ensures tries { Tries C.terms C.Object.opens C.Object.step (plan_of self.now) (is_within 0 (shape_of self.now).locales) (me_of seat.old) (me_of seat.new) result }
+        ensures tries { Tries C.terms C.Object.opens C.Object.step (plan_of self.now) first (is_within 0 (shape_of self.now).locales) (me_of seat.old) (me_of seat.new) result }
     {
         match self.try_range(rt, seat, first, self.shape.locales) {
             Tried::Taken { ptr } => Tried::Taken { ptr },
@@ -164,7 +164,7 @@ impl<C: Client> Manager<C> {
         ensures knows { knows pass.new ≡ knows_then C.terms (knows pass.old) result }
         ensures history { ListsItems C.terms C.Object.opens C.Object.step (plan_of self.now) (change pass.old pass.new) (taken_items (caller_of pass.old) result) }
         ensures grows { IsPrefix (page pass.old).seen (page pass.new).seen }
-        ensures cause { ReadsWords C.terms C.Object.opens C.Object.step (plan_of self.now) (change pass.old pass.new) (TakeReads (shape_of self.now) result) }
+        ensures cause { ReadsWords C.terms C.Object.opens C.Object.step (plan_of self.now) (change pass.old pass.new) (TakeReads (shape_of self.now) locale result) }
         ensures tells { IsTold locale result }
         ensures spent { (count : ℕ) → result ≡ Err (Spent count) → CanSpend (plan_of self.now) (page pass.new).seen }
     {

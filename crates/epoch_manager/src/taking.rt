@@ -12,7 +12,7 @@ ghost use Rattle.epoch_laws.specs.Seats.{is_reclaiming};
 ghost use Rattle.pass_table.specs.Passes.{IsSeatOf, view_of, me_of};
 ghost use Rattle.epoch_manager.specs.Managers.{plan_of, shape_of, callers_of};
 ghost use Rattle.epoch_manager.specs.Takes.{SaysFree};
-ghost use Rattle.epoch_manager.specs.TakeSeats.{IsEmptyHanded, IsKnowing, HasOne, IsChained, HoldsChain, HoldsRest, Gets, Scans, Walks, WalksRest, GoesHome, TakesOne};
+ghost use Rattle.epoch_manager.specs.TakeSeats.{IsEmptyHanded, IsKnowing, HasOne, IsChained, HoldsChain, HoldsRest, Gets, GetsHead, Scans, Walks, WalksRest, GoesHome, TakesOne};
 
 use crate::gets::Get;
 use crate::managers::Manager;
@@ -69,7 +69,7 @@ impl<C: Client> Manager<C> {
         requires phase { is_reclaiming (view_of seat.old).part.seat.phase ≡ false }
         requires empty { IsEmptyHanded (view_of seat.old).part }
         ensures seat { IsSeatOf self.now.words.table seat.new }
-        ensures gets { Gets C.terms C.Object.opens C.Object.step (plan_of self.now) locale (me_of seat.old) (me_of seat.new) result }
+        ensures gets { GetsHead C.terms C.Object.opens C.Object.step (plan_of self.now) locale (me_of seat.old) (me_of seat.new) result }
     {
         for _ in rt.forever() {
             let head = of_free_word(self.words.stack_look(seat, locale));
@@ -96,6 +96,7 @@ impl<C: Client> Manager<C> {
         requires one { HasOne (shape_of self.now) (view_of seat.old).part record { locale = locale; index = index } }
         requires allowed { C.terms.may_take (view_of seat.old).part.client (view_of seat.old).part.seat.owned }
         ensures seat { IsSeatOf self.now.words.table seat.new }
+        ensures local { result.locale ≡ locale }
         ensures takes { TakesOne C.terms C.Object.opens C.Object.step (plan_of self.now) (me_of seat.old) (me_of seat.new) result }
     {
         let header = self.words.take_look(seat, locale, index);

@@ -423,6 +423,25 @@ fn a_pin_stops_the_second_reclaim_after_it(rt: HostRuntime) {
     }
 }
 
+#[test]
+fn a_take_begins_with_the_locale_asked_for(rt: HostRuntime) {
+    let (manager, mut passes) = Manager::open(
+        rt.alloc(),
+        shape(1),
+        Start::usual(),
+        1,
+        Cells::new(1),
+    ).expect(&rt, "memory");
+    let Some(mut pass) = take_pass(&manager, &mut passes) else {
+        return;
+    };
+    let word = match manager.take(&rt, &mut pass, 1) {
+        Ok(ptr) => Some(ptr.word()),
+        Err(_) => None,
+    };
+    assert_eq!(rt; word, Some(Ptr::new(1, 1, 0).word()));
+}
+
 // Takes of a caller that asks at locale 0, puts the object into a cell, asks there again, gives that one back, and asks at
 // locale 1 twice: the words of the objects, and the fault of the last.
 fn borrow_objects(

@@ -1,6 +1,6 @@
 use Rattle.pass_table.specs.Passes.{me_of}
 use Rattle.epoch_manager.specs.Managers.{plan_of}
-use Rattle.epoch_manager.proofs.Takes.{gets_then}
+use Rattle.epoch_manager.proofs.Rounds.{head_then}
 use Rattle.epoch_manager.proofs.managers.Manager.get.Goals as goal
 
 pub returns-in-Empty-clause-gets : goal.returns-in-Empty-clause-gets
@@ -13,4 +13,4 @@ returns-in-Empty-clause-gets g c =
     let k = me_of c.pop-popped.new.seat in
     let n = me_of c.take_home.new.seat in
     let first = c.in-Empty.ensures.gets in
-    gets_then K o s p c.args.locale m k n c.take_home.result first.0 first.1 first.3 c.take_home.ensures.gets
+    head_then K o s p c.args.locale m k n c.take_home.result first.0 first.1 first.3 first.4 c.take_home.ensures.gets

@@ -1,4 +1,4 @@
-use Rattle.std.proofs.Common.{◌∙◌, ap, sym, subst, arith, ◌<◌, None, Some}
+use Rattle.std.proofs.Common.{◌∙◌, ap, sym, subst, arith, ◌<◌, None, Some, refl}
 use Rattle.epoch_laws.specs.Places.{index_in}
 use Rattle.epoch_laws.specs.Seats.{is_reclaiming}
 use Rattle.epoch_laws.specs.StackSteps.{looked_top}
@@ -69,7 +69,7 @@ returns-then-head-eq0-clause-gets g c =
     let head = c.of_free_word-head in
     let count = head.result.count in
     let index = head.result.index in
-    (Some c.stack_look.result, a_reads K o s p l count index m k a a a sofar.0 sofar.1 empty c.requires.locale c.stack_look.result 0 0 head.ensures.count head.ensures.index looks, a_empty K o s p l count index m k a a a sofar.0 sofar.1 empty c.requires.locale c.stack_look.result 0 0 head.ensures.count head.ensures.index looks, a_unspent K o s p l count index m k a a a sofar.0 sofar.1 empty c.requires.locale c.stack_look.result 0 0 head.ensures.count head.ensures.index looks c.if-head-eq-LAST_COUNT.false)
+    (Some c.stack_look.result, a_reads K o s p l count index m k a a a sofar.0 sofar.1 empty c.requires.locale c.stack_look.result 0 0 head.ensures.count head.ensures.index looks, a_empty K o s p l count index m k a a a sofar.0 sofar.1 empty c.requires.locale c.stack_look.result 0 0 head.ensures.count head.ensures.index looks, a_unspent K o s p l count index m k a a a sofar.0 sofar.1 empty c.requires.locale c.stack_look.result 0 0 head.ensures.count head.ensures.index looks c.if-head-eq-LAST_COUNT.false, refl)
 
 pub stack_next-next-requires-clause-top : goal.stack_next-next-requires-clause-top
 stack_next-next-requires-clause-top g c =

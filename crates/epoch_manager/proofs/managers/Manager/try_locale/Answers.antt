@@ -1,3 +1,4 @@
+use Rattle.std.proofs.Common.{inl}
 use Rattle.pass_table.specs.Passes.{me_of}
 use Rattle.epoch_manager.specs.Managers.{plan_of}
 use Rattle.epoch_manager.proofs.Rounds.{takes_after, empty_misses}
@@ -13,7 +14,7 @@ returns-in-Got-clause-tries g c =
     let k = me_of c.get-got.new.seat in
     let n = me_of c.own-ptr.new.seat in
     let gets = c.in-Got.ensures.gets in
-    takes_after K o s p m k n gets.1.looks c.own-ptr.result gets.1.under c.own-ptr.ensures.takes
+    takes_after K o s p c.args.locale m k n gets.1.looks c.own-ptr.result gets.1.under c.own-ptr.ensures.takes (inl (inl c.own-ptr.ensures.local))
 
 pub returns-in-Empty-clause-tries : goal.returns-in-Empty-clause-tries
 returns-in-Empty-clause-tries g c =
