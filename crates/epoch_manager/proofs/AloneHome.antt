@@ -1,20 +1,92 @@
 -- An object of the hand goes home as a chain of one.
-use Rattle.std.proofs.Common.{◌≡◌, ◌<◌, ℕ, true, [], ◌∷◌, ap, sym, ◌∙◌, subst, arith, Some, None}
+use Rattle.std.proofs.Common.{◌≡◌, ◌==◌, ◌<◌, ℕ, Bool, true, false, [], ◌∷◌, List, refl, ap, sym, ◌∙◌, subst, arith, Some, None, eq-eqb, ⊎_elim}
+use Rattle.std.specs.Prelude.{unwrap_or, if◌then◌else◌}
+use Rattle.pgas_base.specs.declared.shapes.Shape.{Shape}
 use Rattle.pgas_base.specs.Pointers.{Pointer}
 use Rattle.epoch_laws.specs.declared.steps.Kind.TheVariants.{HandLink, HomeSwap, HomeLink}
-use Rattle.epoch_laws.specs.Places.{place_of, pending, is_among}
-use Rattle.epoch_laws.proofs.Lists.{among_here}
-use Rattle.epoch_laws.proofs.Updates.{place_here}
+use Rattle.epoch_laws.specs.Chains.{Led, Reaches, Breaks, IsLed, led, led_in, led_from, led_over, leads_into}
+use Rattle.epoch_laws.specs.HomeSteps.{home_swap, home_link}
+use Rattle.epoch_laws.specs.Places.{Place, place_of, place_in, pending, same_place, is_among, without, without_all}
+use Rattle.epoch_laws.specs.Seats.{Seat}
+use Rattle.epoch_laws.specs.StackSteps.{hand_link}
+use Rattle.epoch_laws.specs.States.{IsPlace}
+use Rattle.epoch_laws.specs.Steps.{move}
+use Rattle.epoch_laws.specs.Words.{Words}
+use Rattle.epoch_laws.proofs.Lists.{among_here, among_one}
+use Rattle.epoch_laws.proofs.Updates.{number_here, place_here, same_place_tells}
 use Rattle.epoch_table.specs.declared.parts.Plan.{Plan}
 use Rattle.epoch_table.specs.declared.parts.Part.{Part}
 use Rattle.epoch_table.specs.Clients.{ClientTerms}
 use Rattle.epoch_table.specs.Deeds.{deed}
-use Rattle.epoch_table.specs.Facts.{count_of, next_word_of, facts_after}
+use Rattle.epoch_table.specs.Facts.{Facts, count_of, next_word_of, facts_after}
 use Rattle.epoch_table.specs.Kinds.{looks_of, MayMake, Makes}
-use Rattle.epoch_manager.specs.Returning.{home_words}
-use Rattle.epoch_manager.specs.Releasing.{HasAlone, part_homed, GoesAlone}
-use Rattle.epoch_manager.proofs.ReturnSteps.{link_row, swap_row, home_row, link_told, swap_told, home_told}
+use Rattle.epoch_table.specs.Knowledge.{Row, AreAllKnown, known_words, tells}
+use Rattle.epoch_manager.specs.Returning.{HasAlone, part_homed, GoesAlone, home_words}
 use Rattle.epoch_manager.proofs.TokenSteps.{Seated, Goes, made_of, then_goes}
+
+same_self : (p : Place) → same_place p p ≡ true
+same_self p = ⊎_elim (λ h. h.0) (λ h. let ne = h.1 in absurd (ne refl)) (same_place_tells p p)
+
+-- a chain of one object, whose next word is the mark of one that has no link yet
+one_led : (words : Words) (p : Place) → words.next p ≡ pending → led_in words (p ∷ []) (λ word. word == pending) p p ≡ Reaches (p ∷ [])
+unfolding led
+one_led words p is =
+    let word = words.next p in
+    let q = place_in word in
+    let left = without p (p ∷ []) in
+    let rest : Led = elim (leads_into words p.locale left word) as (λ _. Led) [ true ↦ led_from p (led 0 words p.locale (λ w. w == pending) p (without q left) q) | false ↦ Breaks word ] in
+    let ended : Bool → Led = λ b. if b then Reaches (p ∷ []) else Breaks word in
+    let shown : Bool → Led = λ b. elim b as (λ _. Led) [ true ↦ ended (word == pending) | false ↦ rest ] in
+    ap shown (same_self p) ∙ ap ended (eq-eqb word pending is)
+
+one_gone : (p : Place) → without_all (p ∷ []) (p ∷ []) ≡ []
+unfolding without_all
+one_gone p = rw (among_here p []) refl
+
+module _ (shape : Shape) (seats c : ℕ) (seat : Seat) (facts : Facts) where
+  link_told : (q : Pointer) (word found : ℕ) → tells shape seats c seat facts (HandLink q word) found ≡ record { seat = seat; items = [] }
+  unfolding move hand_link
+  link_told q word found = refl
+
+  swap_told : (q : Pointer) (found : ℕ) → seat.hand ≡ place_of q ∷ [] → next_word_of facts (place_of q) ≡ Some pending
+      → tells shape seats c seat facts (HomeSwap q q) found ≡ record { seat = record seat { hand = []; homing = record seat.homing { tail = Some (place_of q); old = found } }; items = [] }
+  unfolding move home_swap led_over
+  swap_told q found hand next =
+      let p = place_of q in
+      let left : List Place → List Place = λ h. without_all (led_over (led_in (known_words facts found) h (λ word. word == pending) p p)) h in
+      let none : left (p ∷ []) ≡ [] = ap (λ l. without_all (led_over l) (p ∷ [])) (one_led (known_words facts found) p (ap (λ o. unwrap_or o 0) next)) ∙ one_gone p in
+      let of : List Place → Seat = λ h. record seat { hand = h; homing = record seat.homing { tail = Some p; old = found } } in
+      ap (λ (s : Seat). record { seat = s; items = [] }) (number_here (λ d. seat) c (of (left seat.hand)) ∙ ap of (ap left hand ∙ none))
+
+  home_told : (found : ℕ) → tells shape seats c seat facts HomeLink found ≡ record { seat = record seat { homing = record seat.homing { tail = None } }; items = [] }
+  unfolding move home_link
+  home_told found = ap (λ (s : Seat). record { seat = s; items = [] }) (number_here (λ d. seat) c (record seat { homing = record seat.homing { tail = None } }))
+
+  module _ (below : c < seats) where
+    link_row : (q : Pointer) (word : ℕ) → IsPlace shape (place_of q) → is_among (place_of q) seat.hand ≡ true → count_of facts (place_of q) ≡ Some q.count → Row shape seats c seat facts (HandLink q word)
+    unfolding move hand_link
+    link_row q word inside own count = ((below, (inside, (ap (λ o. unwrap_or o 0) count, (own, tt)))), count)
+
+    swap_row : (q : Pointer) → IsPlace shape (place_of q) → seat.homing.tail ≡ None → seat.hand ≡ place_of q ∷ [] → count_of facts (place_of q) ≡ Some q.count → next_word_of facts (place_of q) ≡ Some pending
+        → Row shape seats c seat facts (HomeSwap q q)
+    unfolding move home_swap
+    swap_row q inside free hand count next =
+        let p = place_of q in
+        let number = ap (λ o. unwrap_or o 0) count in
+        let own : is_among p seat.hand ≡ true = subst (λ h. is_among p h ≡ true) (sym hand) (among_here p []) in
+        let way = one_led (known_words facts 0) p (ap (λ o. unwrap_or o 0) next) in
+        let led : IsLed (led_in (known_words facts 0) seat.hand (λ word. word == pending) p p) =
+        subst (λ h. IsLed (led_in (known_words facts 0) h (λ word. word == pending) p p)) (sym hand) (subst IsLed (sym way) tt) in
+        let known : AreAllKnown facts seat.hand =
+        subst (AreAllKnown facts) (sym hand)
+        (λ r among.
+        let is : r ≡ p = among_one r p among in
+        ((q.count, subst (λ x. count_of facts x ≡ Some q.count) (sym is) count), (pending, subst (λ x. next_word_of facts x ≡ Some pending) (sym is) next))) in
+        ((below, (inside, (inside, (free, (number, (number, ((own, refl), ((own, refl), (led, tt))))))))), known)
+
+    home_row : (p : Place) → seat.homing.tail ≡ Some p → Row shape seats c seat facts HomeLink
+    unfolding move home_link
+    home_row p is = ((below, ((p, is), tt)), tt)
 
 module _ {C View' Call Reply State' : Type 0} (K : ClientTerms C View' Call Reply State') (opens : State' → Type 0) (step : State' → Call → Reply → State' → Type 0) (plan : Plan C) (q : Pointer) (m : Seated K opens step plan) (below : m.0.number < plan.callers)
     (has : HasAlone plan.shape m.0.part q) where

@@ -30,9 +30,9 @@ use Rattle.epoch_table.specs.Kinds.{entries_of_items, MayMake, Makes}
 use Rattle.epoch_table.specs.Numbers.{count_in, header_in}
 use Rattle.epoch_table.specs.Released.{released_after, released_by}
 use Rattle.epoch_table.proofs.Knowledge.{header_read}
-use Rattle.epoch_manager.specs.Returning.{home_words}
+use Rattle.epoch_manager.specs.Returning.{HasAlone, part_homed, GoesAlone, home_words}
 use Rattle.epoch_manager.specs.TakeSeats.{Has}
-use Rattle.epoch_manager.specs.Releasing.{HasAlone, part_homed, IsWalking, IsKeptBy, freed_items, GoesAlone, ReleasesOne, released_of}
+use Rattle.epoch_manager.specs.Releasing.{IsWalking, IsKeptBy, freed_items, ReleasesOne, released_of}
 use Rattle.epoch_manager.proofs.HandChains.{small_of}
 use Rattle.epoch_manager.proofs.HomeWalks.{count_back}
 use Rattle.epoch_manager.proofs.ReclaimSteps.{walk_row, walk_told, release_row, release_free, release_worn}

@@ -1,19 +1,18 @@
 -- What a reclaim does between its advance and its leaves.
-use Rattle.std.specs.Prelude.{◌≡◌, ◌+◌, ◌*◌, ◌≤◌, ◌<◌, ◌++◌, ℕ, true, false, List, [], ◌∷◌, length, map, fold, Some, None, Result, Ok, Err}
+use Rattle.std.specs.Prelude.{◌≡◌, ◌+◌, ◌*◌, ◌≤◌, ◌<◌, ◌++◌, ℕ, true, false, List, [], ◌∷◌, length, map, fold, None, Result, Ok, Err}
 use Rattle.pass_book.specs.declared.entries.Look.{Look}
-use Rattle.pgas_base.specs.declared.shapes.Shape.{Shape}
 use Rattle.pgas_base.specs.Pointers.{Pointer}
 use Rattle.epoch_laws.specs.declared.events.EpochEvent.TheVariants.{Freed}
 use Rattle.epoch_laws.specs.declared.events.Item.{Item}
 use Rattle.epoch_laws.specs.declared.events.Item.TheVariants.{Event, Advance as Advances, Claim, Leave}
 use Rattle.epoch_laws.specs.ChainWords.{IsChainWord}
 use Rattle.epoch_laws.specs.Locations.{IsDistinct}
-use Rattle.epoch_laws.specs.Places.{Place, place_of, pending, is_among}
+use Rattle.epoch_laws.specs.Places.{Place, place_of, is_among}
 use Rattle.epoch_laws.specs.ReclaimSteps.{last_epoch}
 use Rattle.epoch_laws.specs.Seats.{Advanced, Registered}
 use Rattle.epoch_laws.specs.States.{IsPlace}
 use Rattle.epoch_laws.specs.Words.{WordName}
-use Rattle.pass_table.specs.Steps.{GoesTo, GoesAmongTo}
+use Rattle.pass_table.specs.Steps.{GoesAmongTo}
 use Rattle.epoch_table.specs.declared.parts.Plan.{Plan}
 use Rattle.epoch_table.specs.declared.parts.Part.{Part}
 use Rattle.epoch_table.specs.Clients.{ClientTerms, Frees}
@@ -25,23 +24,7 @@ use Rattle.epoch_table.specs.Rule.{manager_terms}
 use Rattle.epoch_manager.specs.declared.faults.NotNow.{NotNow}
 use Rattle.epoch_manager.specs.declared.reclaims.Advanced.{Advanced as Reclaimed}
 use Rattle.epoch_manager.specs.Reclaiming.{ArePassed, local_read, global_read, epoch_read, EntersReclaim}
-use Rattle.epoch_manager.specs.Returning.{home_words}
 use Rattle.epoch_manager.specs.TakeSeats.{SeatOf, Has}
-
--- ---- an object that goes home alone
-
--- just this object is in the hand
-pub record HasAlone {View' : Type 0} (shape : Shape) (part : Part View') (q : Pointer) : Type 0 where
-  pub inside : IsPlace shape (place_of q)
-  pub hand : part.seat.hand ≡ place_of q ∷ []
-  pub tail : part.seat.homing.tail ≡ None
-  pub count : count_of part.facts (place_of q) ≡ Some q.count
-
-abbrev pub part_homed : {View' : Type 0} → Pointer → ℕ → Part View' → Part View'
-part_homed q old part = record part {
-  seat = record part.seat { hand = []; homing = record part.seat.homing { tail = None; old = old } };
-  facts = record part.facts { nexts = record { place = place_of q; number = Some old } ∷ record { place = place_of q; number = Some pending } ∷ part.facts.nexts };
-}
 
 -- ---- the lists
 
@@ -90,10 +73,6 @@ module _ {C View' Call Reply State' : Type 0} (K : ClientTerms C View' Call Repl
   -- the objects that it has freed since its last advance, the last one first
   abbrev pub released_of : SeatOf K opens step plan → List Place
   released_of m = released_by m.0.number m.0.mine
-
-  -- an object of the hand went home as a chain of one
-  abbrev pub GoesAlone : Pointer → SeatOf K opens step plan → SeatOf K opens step plan → Type 0
-  GoesAlone q m n = (old : ℕ) × GoesTo (manager_terms K) (PastOpens opens) (PastSteps step) plan m n (home_words q.locale old) [] (part_homed q old m.0.part) m.1
 
   -- steps that listed these items and freed these objects
   pub record Lists (m n : SeatOf K opens step plan) (items : List Item) (pointers : List Pointer) : Type 0 where

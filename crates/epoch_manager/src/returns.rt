@@ -1,12 +1,12 @@
 //! How an object that was never shown is given back.
-ghost use Rattle.std.specs.Prelude.{◌≡◌, Contains};
+ghost use Rattle.std.specs.Prelude.{◌≡◌, ◌<◌, Contains};
 ghost use mathlib.Core.List.{IsPrefix};
 ghost use Rattle.epoch_laws.specs.declared.events.EpochEvent.TheVariants.{Returned};
 ghost use Rattle.epoch_laws.specs.Needs.{event};
 ghost use Rattle.epoch_table.specs.Clients.{Returns};
 ghost use Rattle.pass_table.specs.Passes.{IsSeatOf, view_of, me_of};
-ghost use Rattle.epoch_manager.specs.Managers.{plan_of, opening_of, pass_opening, phase_of, caller_of, page, owned_by, held_by, knows, others, IsSamePass, change, ListsItems, ReadsWords};
-ghost use Rattle.epoch_manager.specs.Returning.{MayReturn, ReturnsSeat, ReturnCause};
+ghost use Rattle.epoch_manager.specs.Managers.{plan_of, shape_of, callers_of, opening_of, pass_opening, phase_of, caller_of, page, owned_by, held_by, knows, others, IsSamePass, change, ListsItems, ReadsWords};
+ghost use Rattle.epoch_manager.specs.Returning.{HasAlone, GoesAlone, MayReturn, ReturnsSeat, ReturnCause};
 
 use crate::managers::{Manager, Pass};
 use epoch_table::{Client, TableSeat};
@@ -16,6 +16,20 @@ use pgas_base::Ptr;
 const PENDING: u64 = u64::MAX;
 
 impl<C: Client> Manager<C> {
+    // Hands the object that is alone in the hand home, as a chain of one.
+    #[inline]
+    pub(crate) fn go_home(&self, seat: &mut TableSeat<C>, ptr: Ptr)
+        requires seat { IsSeatOf self.now.words.table seat.old }
+        requires below { (view_of seat.old).number < callers_of self.now }
+        requires alone { HasAlone (shape_of self.now) (view_of seat.old).part ptr }
+        ensures seat { IsSeatOf self.now.words.table seat.new }
+        ensures goes { GoesAlone C.terms C.Object.opens C.Object.step (plan_of self.now) ptr (me_of seat.old) (me_of seat.new) }
+    {
+        self.words.hand_link(seat, ptr, PENDING);
+        let old = self.words.home_swap(seat, ptr, ptr);
+        self.words.home_link(seat, ptr.locale(), ptr.index(), old);
+    }
+
     // The four steps of a give-back: the object is free, and goes home as a chain of one.
     #[inline]
     fn return_seat(&self, seat: &mut TableSeat<C>, ptr: Ptr)
@@ -25,9 +39,7 @@ impl<C: Client> Manager<C> {
         ensures returns { ReturnsSeat C.terms C.Object.opens C.Object.step (plan_of self.now) ptr (me_of seat.old) (me_of seat.new) }
     {
         self.words.give_back(seat, ptr);
-        self.words.hand_link(seat, ptr, PENDING);
-        let old = self.words.home_swap(seat, ptr, ptr);
-        self.words.home_link(seat, ptr.locale(), ptr.index(), old);
+        self.go_home(seat, ptr);
     }
 
     /// Gives back an object that the caller owns and has not shown. The object is free again, with the same count, and

@@ -2,7 +2,7 @@ use Rattle.std.proofs.Common.{◌≢◌, ◌∙◌, ◌+◌, sym, subst, arith}
 use Rattle.epoch_laws.specs.ReclaimSteps.{last_count}
 use Rattle.pass_table.specs.Passes.{me_of}
 use Rattle.epoch_manager.specs.Managers.{plan_of}
-use Rattle.epoch_manager.specs.Releasing.{HasAlone, GoesAlone}
+use Rattle.epoch_manager.specs.Returning.{HasAlone, GoesAlone}
 use Rattle.epoch_manager.proofs.ReleaseSteps.{place_is, may_walk, may_release, worn_so, alone, free_so}
 use Rattle.epoch_manager.proofs.managers.Manager.release_next.Goals as goal
 

@@ -1,9 +1,9 @@
-use Rattle.std.proofs.Common.{◌∙◌, sym, subst, Some}
+use Rattle.std.proofs.Common.{subst}
 use Rattle.epoch_laws.specs.Places.{place_of}
 use Rattle.epoch_laws.specs.States.{IsPlace}
 use Rattle.pass_table.specs.Passes.{me_of}
 use Rattle.epoch_manager.specs.Managers.{plan_of}
-use Rattle.epoch_manager.proofs.ReturnSteps.{may_return, may_hand_link, may_home_swap, may_home_link, waits_so, returns_so}
+use Rattle.epoch_manager.proofs.ReturnSteps.{may_return, alone, still_below, returns_so}
 use Rattle.epoch_manager.proofs.managers.Manager.return_seat.Goals as goal
 
 pub give_back-requires-clause-place : goal.give_back-requires-clause-place
@@ -28,19 +28,8 @@ give_back-requires-clause-may g c =
     let may = c.requires.may in
     may_return K o s p q m may
 
-pub hand_link-requires-clause-place : goal.hand_link-requires-clause-place
-hand_link-requires-clause-place g c =
-    let K = g.C.Client.terms in
-    let o = g.C.Object.Object.opens in
-    let s = g.C.Object.Object.step in
-    let p = plan_of c.args.self.now in
-    let m = me_of c.args.seat.now in
-    let q = c.args.ptr in
-    let may = c.requires.may in
-    subst (λ h. IsPlace h (place_of q)) c.args.self.now.words.planned may.inside
-
-pub hand_link-requires-clause-may : goal.hand_link-requires-clause-may
-hand_link-requires-clause-may g c =
+pub go_home-requires-clause-below : goal.go_home-requires-clause-below
+go_home-requires-clause-below g c =
     let K = g.C.Client.terms in
     let o = g.C.Object.Object.opens in
     let s = g.C.Object.Object.step in
@@ -50,21 +39,10 @@ hand_link-requires-clause-may g c =
     let may = c.requires.may in
     let a = me_of c.give_back.new.seat in
     let returns = c.give_back.ensures.makes in
-    may_hand_link K o s p q m a may returns
+    still_below K o s p q m a may returns
 
-pub home_swap-old-requires-clause-locale : goal.home_swap-old-requires-clause-locale
-home_swap-old-requires-clause-locale g c =
-    let K = g.C.Client.terms in
-    let o = g.C.Object.Object.opens in
-    let s = g.C.Object.Object.step in
-    let p = plan_of c.args.self.now in
-    let m = me_of c.args.seat.now in
-    let q = c.args.ptr in
-    let may = c.requires.may in
-    (subst (λ h. IsPlace h (place_of q)) c.args.self.now.words.planned may.inside).locale
-
-pub home_swap-old-requires-clause-may : goal.home_swap-old-requires-clause-may
-home_swap-old-requires-clause-may g c =
+pub go_home-requires-clause-alone : goal.go_home-requires-clause-alone
+go_home-requires-clause-alone g c =
     let K = g.C.Client.terms in
     let o = g.C.Object.Object.opens in
     let s = g.C.Object.Object.step in
@@ -74,74 +52,7 @@ home_swap-old-requires-clause-may g c =
     let may = c.requires.may in
     let a = me_of c.give_back.new.seat in
     let returns = c.give_back.ensures.makes in
-    let b = me_of c.hand_link.new.seat in
-    let links = c.hand_link.ensures.makes in
-    may_home_swap K o s p q m a may returns b links
-
-pub home_link-requires-clause-place : goal.home_link-requires-clause-place
-home_link-requires-clause-place g c =
-    let K = g.C.Client.terms in
-    let o = g.C.Object.Object.opens in
-    let s = g.C.Object.Object.step in
-    let p = plan_of c.args.self.now in
-    let m = me_of c.args.seat.now in
-    let q = c.args.ptr in
-    let may = c.requires.may in
-    subst (λ x. IsPlace c.args.self.now.words.shape x) (λ i. record { locale = sym c.locale.ensures.value i; index = sym c.index.ensures.value i }) (subst (λ h. IsPlace h (place_of q)) c.args.self.now.words.planned may.inside)
-
-pub home_link-requires-clause-tail : goal.home_link-requires-clause-tail
-home_link-requires-clause-tail g c =
-    let K = g.C.Client.terms in
-    let o = g.C.Object.Object.opens in
-    let s = g.C.Object.Object.step in
-    let p = plan_of c.args.self.now in
-    let m = me_of c.args.seat.now in
-    let q = c.args.ptr in
-    let may = c.requires.may in
-    let a = me_of c.give_back.new.seat in
-    let returns = c.give_back.ensures.makes in
-    let b = me_of c.hand_link.new.seat in
-    let links = c.hand_link.ensures.makes in
-    let d = me_of c.home_swap-old.new.seat in
-    let old = c.home_swap-old.result in
-    let swaps = c.home_swap-old.ensures.makes in
-    (waits_so K o s p q m a may returns b links d old swaps).0 ∙ (λ i. Some (record { locale = sym c.locale.ensures.value i; index = sym c.index.ensures.value i }))
-
-pub home_link-requires-clause-old : goal.home_link-requires-clause-old
-home_link-requires-clause-old g c =
-    let K = g.C.Client.terms in
-    let o = g.C.Object.Object.opens in
-    let s = g.C.Object.Object.step in
-    let p = plan_of c.args.self.now in
-    let m = me_of c.args.seat.now in
-    let q = c.args.ptr in
-    let may = c.requires.may in
-    let a = me_of c.give_back.new.seat in
-    let returns = c.give_back.ensures.makes in
-    let b = me_of c.hand_link.new.seat in
-    let links = c.hand_link.ensures.makes in
-    let d = me_of c.home_swap-old.new.seat in
-    let old = c.home_swap-old.result in
-    let swaps = c.home_swap-old.ensures.makes in
-    (waits_so K o s p q m a may returns b links d old swaps).1
-
-pub home_link-requires-clause-may : goal.home_link-requires-clause-may
-home_link-requires-clause-may g c =
-    let K = g.C.Client.terms in
-    let o = g.C.Object.Object.opens in
-    let s = g.C.Object.Object.step in
-    let p = plan_of c.args.self.now in
-    let m = me_of c.args.seat.now in
-    let q = c.args.ptr in
-    let may = c.requires.may in
-    let a = me_of c.give_back.new.seat in
-    let returns = c.give_back.ensures.makes in
-    let b = me_of c.hand_link.new.seat in
-    let links = c.hand_link.ensures.makes in
-    let d = me_of c.home_swap-old.new.seat in
-    let old = c.home_swap-old.result in
-    let swaps = c.home_swap-old.ensures.makes in
-    may_home_link K o s p q m a may returns b links d old swaps
+    alone K o s p q m a may returns
 
 pub returns-clause-returns : goal.returns-clause-returns
 returns-clause-returns g c =
@@ -154,9 +65,4 @@ returns-clause-returns g c =
     let may = c.requires.may in
     let a = me_of c.give_back.new.seat in
     let returns = c.give_back.ensures.makes in
-    let b = me_of c.hand_link.new.seat in
-    let links = c.hand_link.ensures.makes in
-    let d = me_of c.home_swap-old.new.seat in
-    let old = c.home_swap-old.result in
-    let swaps = c.home_swap-old.ensures.makes in
-    returns_so K o s p q m a may returns b links d old swaps (me_of c.home_link.new.seat) c.home_link.ensures.makes
+    returns_so K o s p q m a may returns (me_of c.go_home.new.seat) c.go_home.ensures.goes
