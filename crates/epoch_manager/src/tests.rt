@@ -335,6 +335,8 @@ fn defer_what_a_cell_names(manager: &Manager<Cells>, pass: &mut Pass<Cells>) -> 
     requires opening { pass_opening pass.old ≡ opening_of manager.now }
     requires phase { (token : Token) × (phase_of pass.old ≡ Phase.Pinned token) }
     requires cells { 0 < (plan_of manager.now).own }
+    ensures opening { pass_opening pass.new ≡ pass_opening pass.old }
+    ensures phase { phase_of pass.new ≡ phase_of pass.old }
 {
     let word = manager.switch(pass, first_cell(), 0);
     let Some(ptr) = Ptr::of_word(word) else {
@@ -375,34 +377,6 @@ fn through_a_cell(
 
 #[test]
 fn a_cell_leads_to_what_its_object_was_filled_with(rt: HostRuntime) {
-
-// A reclaim and one more, while another caller stays pinned.
-fn reclaim_behind_a_pin(
-    manager: &Manager<Cells>,
-    reader: &mut Pass<Cells>,
-    other: &mut Pass<Cells>,
-) -> [Option<Result<Advanced, NotNow>>; 2]
-    requires first { pass_opening reader.old ≡ opening_of manager.now }
-    requires second { pass_opening other.old ≡ opening_of manager.now }
-    requires idle { phase_of reader.old ≡ Phase.Idle }
-    requires other { phase_of other.old ≡ Phase.Idle }
-    requires locales { (shape_of manager.now).locales ≡ 2 }
-{
-    let _ = manager.register(reader, 0);
-    let _ = manager.register(other, 1);
-    if let Phase::Registered { .. } = reader.phase() {
-        manager.pin(reader);
-    }
-    if let Phase::Registered { .. } = other.phase() {
-        let first = manager.try_reclaim(other);
-        let second = manager.try_reclaim(other);
-        return [Some(first), Some(second)];
-    }
-    [None, None]
-}
-
-#[test]
-fn a_pin_stops_the_second_reclaim_after_it(rt: HostRuntime) {
     let (manager, mut passes) = Manager::open(
         rt.alloc(),
         shape(1),
@@ -489,7 +463,39 @@ fn a_locale_without_a_free_object_borrows_from_the_next(rt: HostRuntime) {
     let full = Some(TakeFault::NoRoom { locale: 1 });
     let borrowed = borrow_objects(&rt, &manager, &mut pass);
     assert_eq!(rt; borrowed, Some(([here, there, there], full)));
+}
 
+// A reclaim and one more, while another caller stays pinned.
+fn reclaim_behind_a_pin(
+    manager: &Manager<Cells>,
+    reader: &mut Pass<Cells>,
+    other: &mut Pass<Cells>,
+) -> [Option<Result<Advanced, NotNow>>; 2]
+    requires first { pass_opening reader.old ≡ opening_of manager.now }
+    requires second { pass_opening other.old ≡ opening_of manager.now }
+    requires idle { phase_of reader.old ≡ Phase.Idle }
+    requires other { phase_of other.old ≡ Phase.Idle }
+    requires locales { (shape_of manager.now).locales ≡ 2 }
+{
+    let _ = manager.register(reader, 0);
+    let _ = manager.register(other, 1);
+    if let Phase::Registered { .. } = reader.phase() {
+        manager.pin(reader);
+    }
+    if let Phase::Registered { .. } = other.phase() {
+        let first = manager.try_reclaim(other);
+        let second = manager.try_reclaim(other);
+        return [Some(first), Some(second)];
+    }
+    [None, None]
+}
+
+#[test]
+fn a_pin_stops_the_second_reclaim_after_it(rt: HostRuntime) {
+    let (manager, mut passes) = Manager::open(
+        rt.alloc(),
+        shape(1),
+        Start::usual(),
         2,
         Cells::new(1),
     ).expect(&rt, "memory");
@@ -507,4 +513,72 @@ fn a_locale_without_a_free_object_borrows_from_the_next(rt: HostRuntime) {
         word: 3,
     });
     assert_eq!(rt; replies, [Some(first), Some(second)]);
+}
+
+// How many objects a reclaim frees.
+fn freed_by(manager: &Manager<Cells>, pass: &mut Pass<Cells>) -> Option<u32>
+    requires opening { pass_opening pass.old ≡ opening_of manager.now }
+    requires phase { (token : Token) × (phase_of pass.old ≡ Phase.Registered token) }
+    ensures opening { pass_opening pass.new ≡ pass_opening pass.old }
+    ensures phase { phase_of pass.new ≡ phase_of pass.old }
+{
+    match manager.try_reclaim(pass) {
+        Ok(advanced) => Some(advanced.freed),
+        Err(_) => None,
+    }
+}
+
+// Puts an object into a cell, cuts it out again and defers it. How many objects each of the next reclaims frees, and the
+// word of the object that is then taken.
+fn free_an_object(
+    rt: &impl Wait,
+    manager: &Manager<Cells>,
+    pass: &mut Pass<Cells>,
+) -> Option<([Option<u32>; 3], u64)>
+    requires opening { pass_opening pass.old ≡ opening_of manager.now }
+    requires phase { (token : Token) × (phase_of pass.old ≡ Phase.Registered token) }
+    requires cells { 0 < (plan_of manager.now).own }
+    requires locales { 0 < (shape_of manager.now).locales }
+{
+    let Ok(ptr) = manager.take(rt, pass, 0) else {
+        return None;
+    };
+    manager.pin(pass);
+    put_into_a_cell(manager, pass, ptr);
+    defer_what_a_cell_names(manager, pass);
+    manager.unpin(pass);
+    let first = freed_by(manager, pass);
+    let second = freed_by(manager, pass);
+    let third = freed_by(manager, pass);
+    let Ok(again) = manager.take(rt, pass, 0) else {
+        return None;
+    };
+    Some(([first, second, third], again.word()))
+}
+
+// An object is freed by the third advance after its deferral, and comes back with one count more.
+#[test]
+fn a_deferred_object_is_freed_and_comes_again(rt: HostRuntime) {
+    let small = Shape {
+        locales: 1,
+        tokens: 1,
+        objects: 1,
+        width: 2,
+    };
+    let (manager, mut passes) = Manager::open(
+        rt.alloc(),
+        small,
+        Start::usual(),
+        1,
+        Cells::new(1),
+    ).expect(&rt, "memory");
+    let Some(mut pass) = take_pass(&manager, &mut passes) else {
+        return;
+    };
+    let _ = manager.register(&mut pass, 0);
+    if let Phase::Registered { .. } = pass.phase() {
+        let freed = free_an_object(&rt, &manager, &mut pass);
+        let again = Ptr::new(0, 1, 1).word();
+        assert_eq!(rt; freed, Some(([Some(0), Some(0), Some(1)], again)));
+    }
 }
