@@ -1,20 +1,19 @@
-//! The program `bench_objects`: times pairs of calls on a shared deque or a shared bag, or turns on a cell of a manager, each of
-//! some threads making as many with a pass of its own.
+//! The program `bench_objects`: times pairs of calls on a shared deque or a shared bag, each of some threads
+//! making as many with a pass of its own.
 //!
 //! On standard output it says how many items were put in and taken out, and on standard error how many nanoseconds
-//! a call of one thread took, or a turn, from before the threads start until all have ended. Opening isn't timed.
+//! a call of one thread took, from before the threads start until all have ended. Opening isn't timed.
 #![tactic(auto)]
 
 mod bag_pairs;
 mod deque_pairs;
-mod epoch_turns;
 mod orders;
 
 use anyhow::Result;
-use orders::{Order, Work};
+use orders::{Form, Object, Order};
 use std::env;
 
-const USAGE: &str = "bench_objects deque|bag try|wait THREADS PAIRS, or bench_objects epochs read|replace THREADS TURNS";
+const USAGE: &str = "bench_objects deque|bag try|wait THREADS PAIRS";
 
 fn main(rt: HostRuntime) -> Result<()> {
     let words: Vec<String> = env::args(&rt)?.skip(1).collect(rt.alloc())?;
@@ -22,12 +21,11 @@ fn main(rt: HostRuntime) -> Result<()> {
         println!(rt; "{USAGE}")?;
         return Ok(());
     };
-    let timed = match order.work {
-        Work::Deque(form) => deque_pairs::run(&rt, form, order.threads, order.times)?,
-        Work::Bag(form) => bag_pairs::run(&rt, form, order.threads, order.times)?,
-        Work::Epochs(turn) => epoch_turns::run(&rt, turn, order.threads, order.times)?,
+    let timed = match order.object {
+        Object::Deque => deque_pairs::run(&rt, order.form, order.threads, order.pairs)?,
+        Object::Bag => bag_pairs::run(&rt, order.form, order.threads, order.pairs)?,
     };
-    let tenths = timed.tenths(order);
+    let tenths = timed.tenths(order.pairs);
     let whole = tenths / 10;
     let part = tenths % 10;
     eprintln!(rt; "{whole}.{part} ns a call")?;
