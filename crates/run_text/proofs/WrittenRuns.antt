@@ -9,7 +9,6 @@ use Rattle.pgas_base.specs.Shapes.{IsShape}
 use Rattle.pgas_base.specs.Starts.{IsStart}
 use Rattle.pgas_base.specs.declared.shapes.Shape.{Shape}
 use Rattle.pgas_base.specs.declared.starts.Start.{Start}
-use Rattle.line_text.specs.Letters.{letters_from}
 use Rattle.line_text.specs.Lines.{line_says}
 use Rattle.line_text.specs.Texts.{Standing, count_of, standing, HasText, IsOpen}
 use Rattle.line_text.proofs.Standings.{open_nothing}
@@ -31,7 +30,7 @@ use Rattle.run_text.proofs.WrittenSteps.{Writes, number_part, number_step, of_wo
 version_writes : Writes First version_words line.Version
 version_writes =
     of_words First 112 (codes "gas-run") (codes "1" ∷ []) line.Version (λ e. omega (arith, e))
-    (word_part (codes "pgas-run") (omega arith, letters_from (codes "pgas-run") refl) (omega arith), (word_part (codes "1") (omega arith, letters_from (codes "1") refl) (omega arith), tt)) (omega arith) refl
+    (word_part (codes "pgas-run") refl refl, (word_part (codes "1") refl refl, tt)) (omega arith) refl
 
 objects_fit : (shape : Shape) → IsShape shape → shape.objects ≤ objects_most shape.locales
 objects_fit shape is =
@@ -53,7 +52,7 @@ shape_writes shape is =
     let w = shape.width in
     subst (λ (d : List ℕ). Writes ShapeWord (codes "shape " ++ (decimal l ++ 32 ∷ (decimal t ++ 32 ∷ (decimal o ++ 32 ∷ d)))) (line.Shape shape)) (append-nil (decimal w))
     (of_words ShapeWord 115 (codes "hape") (decimal l ∷ decimal t ∷ decimal o ∷ decimal w ∷ []) (line.Shape shape) (λ e. omega (arith, e)) (
-      word_part (codes "shape") (omega arith, letters_from (codes "shape") refl) (omega arith),
+      word_part (codes "shape") refl refl,
       (number_part l (omega (arith, is.0.1)), (number_part t (omega (arith, is.1.1)), (number_part o (omega (arith, is.2.1)), (number_part w (omega (arith, is.3.1)), tt)))),
     ) (omega arith)
     (number_step Locales (between 1 16) l (decimal t ∷ decimal o ∷ decimal w ∷ []) (omega (arith, is.0.1)) refl refl is.0.0 is.0.1
@@ -68,7 +67,7 @@ start_writes start is fits =
     let k = start.stack in
     subst (λ (d : List ℕ). Writes StartWord (codes "start " ++ (decimal e ++ 32 ∷ (decimal n ++ 32 ∷ d))) (line.Start start)) (append-nil (decimal k))
     (of_words StartWord 115 (codes "tart") (decimal e ∷ decimal n ∷ decimal k ∷ []) (line.Start start) (λ e. omega (arith, e)) (
-      word_part (codes "start") (omega arith, letters_from (codes "start") refl) (omega arith),
+      word_part (codes "start") refl refl,
       (number_part e (omega (arith, is.epoch)), (number_part n (omega (arith, fits)), (number_part k (omega (arith, is.stack)), tt))),
     ) (omega arith)
     (number_step Epoch (between 1 (2 ^ 62)) e (decimal n ∷ decimal k ∷ []) (omega (arith, is.epoch)) refl refl is.some_epoch is.epoch
@@ -79,7 +78,7 @@ seats_writes : (seats : ℕ) → 1 ≤ seats → seats ≤ 1024 → Writes Seats
 seats_writes seats some few =
     subst (λ (d : List ℕ). Writes SeatsWord (codes "seats " ++ d) (line.Seats seats)) (append-nil (decimal seats))
     (of_words SeatsWord 115 (codes "eats") (decimal seats ∷ []) (line.Seats seats) (λ e. omega (arith, e))
-    (word_part (codes "seats") (omega arith, letters_from (codes "seats") refl) (omega arith), (number_part seats (omega (arith, few)), tt)) (omega arith)
+    (word_part (codes "seats") refl refl, (number_part seats (omega (arith, few)), tt)) (omega arith)
     (number_step Seats (between 1 1024) seats [] (omega (arith, few)) refl refl some few))
 
 -- ---- where lines lead

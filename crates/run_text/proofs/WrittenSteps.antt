@@ -1,14 +1,14 @@
 -- What is written of a step, word by word.
-use Rattle.std.proofs.Common.{◌≡◌, ◌≢◌, ℕ, ◌+◌, ◌-◌, ◌*◌, ◌<◌, ◌≤◌, ◌^◌, false, true, List, [], ◌∷◌, ◌++◌, length, Some, Ok, codes, decimal, refl, ap, sym, ◌∙◌, arith, subst, append-nil, length-append}
+use Rattle.std.proofs.Common.{◌≡◌, ◌≢◌, ℕ, ◌+◌, ◌-◌, ◌*◌, ◌<◌, ◌≤◌, ◌^◌, false, true, List, [], ◌∷◌, ◌++◌, length, slice_index_or, nat_lt, Some, Ok, codes, decimal, refl, ap, sym, ◌∙◌, arith, subst, append-nil, length-append}
 use Rattle.std.specs.List.{AllByRecursion}
 use Rattle.std.proofs.lemmas.Fmt.{length-decimal-le}
 use Rattle.line_text.specs.declared.forms.Bounds.{Bounds}
-use Rattle.line_text.specs.Letters.{letters_from}
+use Rattle.line_text.specs.Letters.{are_words, words_from}
 use Rattle.line_text.specs.Lines.{line_says, says_words, then_leads}
-use Rattle.std.proofs.lemmas.Bool.{false≢true}
+use Rattle.std.proofs.lemmas.Bool.{false≢true, ltb-true}
 use Rattle.line_text.specs.Words.{is_digit, AreLetters, IsLetter, spaced, words_line}
 use Rattle.line_text.proofs.Written.{decimal_digits}
-use Rattle.line_text.proofs.WrittenWords.{AreWords, digits_are, joined_leads_on, line_of_words, number_joined, number_last, number_leads_on}
+use Rattle.line_text.proofs.WrittenWords.{AreWords, digits_are, joined_leads_on, line_of_words, number_joined, number_last, number_leads_on, words_within}
 use Rattle.pgas_base.specs.Pointers.{Pointer as Ptr, IsPointer}
 use Rattle.epoch_laws.specs.declared.steps.Kind.{Kind as StepKind}
 use Rattle.epoch_laws.specs.declared.steps.Kind.TheVariants as kind
@@ -16,14 +16,12 @@ use Rattle.epoch_laws.specs.declared.steps.Step.{Step}
 use Rattle.run_text.specs.declared.forms.RunLine.{RunLine}
 use Rattle.run_text.specs.declared.forms.RunLine.TheVariants as line
 use Rattle.run_text.specs.declared.forms.Spot.{Spot}
-use Rattle.run_text.specs.declared.forms.Spot.TheVariants.{Seat, Kind, Locale, Number, Pointer, Index, Uses, Next, Tail, TailIndex, TailUses}
-use Rattle.run_text.specs.declared.verbs.ChainVerb.{ChainVerb}
-use Rattle.run_text.specs.declared.verbs.ChainVerb.TheVariants as chain
+use Rattle.run_text.specs.declared.forms.Spot.TheVariants.{Seat, Kind, Locale, Number, Pointer, Index, Uses, Next}
 use Rattle.run_text.specs.declared.verbs.LocaleVerb.TheVariants as locale
 use Rattle.run_text.specs.declared.verbs.NumberVerb.TheVariants as number
 use Rattle.run_text.specs.declared.verbs.PointerVerb.{PointerVerb}
 use Rattle.run_text.specs.declared.verbs.PointerVerb.TheVariants as pointer
-use Rattle.run_text.specs.Forms.{between, bounds_of, after_number, after_pointer, after_tail, joined_of, run_grammar, IsSpot}
+use Rattle.run_text.specs.Forms.{between, bounds_of, after_number, after_pointer, joined_of, run_grammar, IsSpot}
 use Rattle.run_text.specs.Listing.{pointer_word}
 use Rattle.run_text.specs.Runs.{IsKind, IsStep}
 use Rattle.run_text.specs.Written.{kind_text, step_words}
@@ -42,9 +40,9 @@ number_part n small =
     let digits = decimal_digits n small in
     ((digits.0, digits_are (decimal n) digits.1), omega (arith, number_size n small))
 
-all_append : (P : ℕ → Type 0) (one other : List ℕ) → AllByRecursion P one → AllByRecursion P other → AllByRecursion P (one ++ other)
-all_append P [] other all more = more
-all_append P (byte ∷ one) other all more = (all.0, all_append P one other all.1 more)
+all_append : (one other : List ℕ) → AllByRecursion IsLetter one → AllByRecursion IsLetter other → AllByRecursion IsLetter (one ++ other)
+all_append [] other all more = more
+all_append (byte ∷ one) other all more = (all.0, all_append one other all.1 more)
 
 pointer_part : (p : Ptr) → IsPointer p → IsPart (pointer_word p)
 pointer_part p is =
@@ -56,7 +54,7 @@ pointer_part p is =
     let size_behind : length behind ≡ length (decimal p.index) + (length (decimal p.count) + 1) = length-append (decimal p.index) (46 ∷ decimal p.count) ∙ omega arith in (
       (
         omega (arith, size),
-        all_append IsLetter (decimal p.locale) (46 ∷ behind) l.0.1 ((refl, λ e. omega (arith, e)), all_append IsLetter (decimal p.index) (46 ∷ decimal p.count) i.0.1 ((refl, λ e. omega (arith, e)), n.0.1)),
+        all_append (decimal p.locale) (46 ∷ behind) l.0.1 ((refl, λ e. omega (arith, e)), all_append (decimal p.index) (46 ∷ decimal p.count) i.0.1 ((refl, λ e. omega (arith, e)), n.0.1)),
       ),
       omega (arith, size, size_behind, number_size p.locale (omega (arith, is.locale)), number_size p.index (omega (arith, is.index)), number_size p.count (omega (arith, is.count))),
     )
@@ -84,18 +82,6 @@ pointer_step seat verb p words is =
     ∙ (number_joined run_grammar IsSpot (Index seat verb p.locale) (between 1 (2 ^ 24 - 1)) (decimal p.index) p.index refl i.0 i.1 i.2 is.some_object (omega (arith, is.index)) (decimal p.count) refl
     ∙ number_last run_grammar IsSpot (Uses seat verb p.locale p.index) (between 0 (2 ^ 32 - 1)) (decimal p.count) p.count refl n.0 n.1 n.2 (omega arith) (omega (arith, is.count)) refl)))
     ∙ ap (λ (q : Ptr). says_words run_grammar (after_pointer seat verb q) words) (parts_make p)
-
-tail_step : (seat : ℕ) (verb : ChainVerb) (top p : Ptr) (words : List (List ℕ)) → IsPointer p
-    → says_words run_grammar (Tail seat verb top) (pointer_word p ∷ words) ≡ says_words run_grammar (after_tail seat verb top p) words
-tail_step seat verb top p words is =
-    let l = decimal_digits p.locale (omega (arith, is.locale)) in
-    let i = decimal_digits p.index (omega (arith, is.index)) in
-    let n = decimal_digits p.count (omega (arith, is.count)) in
-    (ap (λ r. then_leads r (λ next. says_words run_grammar next words))
-    (joined_leads_on run_grammar IsSpot (Tail seat verb top) (between 0 15) (decimal p.locale) p.locale refl l.0 l.1 l.2 (omega arith) (omega (arith, is.locale)) (decimal p.index ++ 46 ∷ decimal p.count) refl
-    ∙ (number_joined run_grammar IsSpot (TailIndex seat verb top p.locale) (between 1 (2 ^ 24 - 1)) (decimal p.index) p.index refl i.0 i.1 i.2 is.some_object (omega (arith, is.index)) (decimal p.count) refl
-    ∙ number_last run_grammar IsSpot (TailUses seat verb top p.locale p.index) (between 0 (2 ^ 32 - 1)) (decimal p.count) p.count refl n.0 n.1 n.2 (omega arith) (omega (arith, is.count)) refl)))
-    ∙ ap (λ (q : Ptr). says_words run_grammar (after_tail seat verb top q) words) (parts_make p)
 
 -- ---- kinds
 
@@ -137,10 +123,6 @@ parts_of kind.HomeWalk = codes "home_walk" ∷ []
 
 pub spaced_parts : (k : StepKind) → spaced (parts_of k) ≡ kind_text k
 spaced_parts (kind.Register l n) = ap (λ (t : List ℕ). codes " register " ++ decimal l ++ 32 ∷ t) (append-nil (decimal n))
-spaced_parts kind.Unregister = refl
-spaced_parts kind.PinLook = refl
-spaced_parts kind.PinSet = refl
-spaced_parts kind.Unpin = refl
 spaced_parts (kind.TakeLook l n) = ap (λ (t : List ℕ). codes " take_look " ++ decimal l ++ 32 ∷ t) (append-nil (decimal n))
 spaced_parts (kind.TakeTry l n) = ap (λ (t : List ℕ). codes " take_try " ++ decimal l ++ 32 ∷ t) (append-nil (decimal n))
 spaced_parts (kind.Show p) = ap (λ (t : List ℕ). codes " show " ++ t) (append-nil (pointer_word p))
@@ -148,135 +130,54 @@ spaced_parts (kind.Hold p) = ap (λ (t : List ℕ). codes " hold " ++ t) (append
 spaced_parts (kind.Touch p) = ap (λ (t : List ℕ). codes " touch " ++ t) (append-nil (pointer_word p))
 spaced_parts (kind.Return p) = ap (λ (t : List ℕ). codes " return " ++ t) (append-nil (pointer_word p))
 spaced_parts (kind.DeferLook p) = ap (λ (t : List ℕ). codes " defer_look " ++ t) (append-nil (pointer_word p))
-spaced_parts kind.DeferSwap = refl
-spaced_parts kind.DeferLink = refl
-spaced_parts kind.ElectLocal = refl
-spaced_parts kind.ElectGlobal = refl
-spaced_parts kind.EpochLook = refl
-spaced_parts kind.ScanToken = refl
-spaced_parts kind.Advance = refl
-spaced_parts kind.Spread = refl
-spaced_parts kind.Collect = refl
-spaced_parts kind.Walk = refl
 spaced_parts (kind.Release p) = ap (λ (t : List ℕ). codes " release " ++ t) (append-nil (pointer_word p))
-spaced_parts kind.Leave = refl
 spaced_parts (kind.StackLook l) = ap (λ (t : List ℕ). codes " stack_look " ++ t) (append-nil (decimal l))
-spaced_parts kind.StackNext = refl
-spaced_parts kind.StackPop = refl
 spaced_parts (kind.StackPut top tail) = ap (λ (t : List ℕ). codes " stack_put " ++ pointer_word top ++ 32 ∷ t) (append-nil (pointer_word tail))
 spaced_parts (kind.HandLink p n) = ap (λ (t : List ℕ). codes " hand_link " ++ pointer_word p ++ 32 ∷ t) (append-nil (decimal n))
 spaced_parts (kind.HomeSwap top tail) = ap (λ (t : List ℕ). codes " home_swap " ++ pointer_word top ++ 32 ∷ t) (append-nil (pointer_word tail))
-spaced_parts kind.HomeLink = refl
 spaced_parts (kind.HomeTake l) = ap (λ (t : List ℕ). codes " home_take " ++ t) (append-nil (decimal l))
-spaced_parts kind.HomeWalk = refl
+spaced_parts k = refl
 
-pub word_part : (word : List ℕ) → AreLetters word → length word ≤ 62 → IsPart word
-word_part word are short = (are, short)
+pub word_part : (word : List ℕ) → are_words (word ∷ []) ≡ true → nat_lt (length word) 63 ≡ true → IsPart word
+word_part word is short = ((words_from (word ∷ []) is).0, omega (arith, ltb-true (length word) 63 short))
 
 pub are_parts : (k : StepKind) → IsKind k → AllByRecursion IsPart (parts_of k)
-are_parts (kind.Register l n) is = (((omega arith, letters_from (codes "register") refl), omega arith), (number_part l (omega (arith, is.0)), (number_part n (omega (arith, is.1)), tt)))
-are_parts kind.Unregister is = (((omega arith, letters_from (codes "unregister") refl), omega arith), tt)
-are_parts kind.PinLook is = (((omega arith, letters_from (codes "pin_look") refl), omega arith), tt)
-are_parts kind.PinSet is = (((omega arith, letters_from (codes "pin_set") refl), omega arith), tt)
-are_parts kind.Unpin is = (((omega arith, letters_from (codes "unpin") refl), omega arith), tt)
-are_parts (kind.TakeLook l n) is = (((omega arith, letters_from (codes "take_look") refl), omega arith), (number_part l (omega (arith, is.0)), (number_part n (omega (arith, is.1)), tt)))
-are_parts (kind.TakeTry l n) is = (((omega arith, letters_from (codes "take_try") refl), omega arith), (number_part l (omega (arith, is.0)), (number_part n (omega (arith, is.1)), tt)))
-are_parts (kind.Show p) is = (((omega arith, letters_from (codes "show") refl), omega arith), (pointer_part p is, tt))
-are_parts (kind.Hold p) is = (((omega arith, letters_from (codes "hold") refl), omega arith), (pointer_part p is, tt))
-are_parts (kind.Touch p) is = (((omega arith, letters_from (codes "touch") refl), omega arith), (pointer_part p is, tt))
-are_parts (kind.Return p) is = (((omega arith, letters_from (codes "return") refl), omega arith), (pointer_part p is, tt))
-are_parts (kind.DeferLook p) is = (((omega arith, letters_from (codes "defer_look") refl), omega arith), (pointer_part p is, tt))
-are_parts kind.DeferSwap is = (((omega arith, letters_from (codes "defer_swap") refl), omega arith), tt)
-are_parts kind.DeferLink is = (((omega arith, letters_from (codes "defer_link") refl), omega arith), tt)
-are_parts kind.ElectLocal is = (((omega arith, letters_from (codes "elect_local") refl), omega arith), tt)
-are_parts kind.ElectGlobal is = (((omega arith, letters_from (codes "elect_global") refl), omega arith), tt)
-are_parts kind.EpochLook is = (((omega arith, letters_from (codes "epoch_look") refl), omega arith), tt)
-are_parts kind.ScanToken is = (((omega arith, letters_from (codes "scan_token") refl), omega arith), tt)
-are_parts kind.Advance is = (((omega arith, letters_from (codes "advance") refl), omega arith), tt)
-are_parts kind.Spread is = (((omega arith, letters_from (codes "spread") refl), omega arith), tt)
-are_parts kind.Collect is = (((omega arith, letters_from (codes "collect") refl), omega arith), tt)
-are_parts kind.Walk is = (((omega arith, letters_from (codes "walk") refl), omega arith), tt)
-are_parts (kind.Release p) is = (((omega arith, letters_from (codes "release") refl), omega arith), (pointer_part p is, tt))
-are_parts kind.Leave is = (((omega arith, letters_from (codes "leave") refl), omega arith), tt)
-are_parts (kind.StackLook l) is = (((omega arith, letters_from (codes "stack_look") refl), omega arith), (number_part l (omega (arith, is)), tt))
-are_parts kind.StackNext is = (((omega arith, letters_from (codes "stack_next") refl), omega arith), tt)
-are_parts kind.StackPop is = (((omega arith, letters_from (codes "stack_pop") refl), omega arith), tt)
-are_parts (kind.StackPut top tail) is = (((omega arith, letters_from (codes "stack_put") refl), omega arith), (pointer_part top is.0, (pointer_part tail is.1, tt)))
-are_parts (kind.HandLink p n) is = (((omega arith, letters_from (codes "hand_link") refl), omega arith), (pointer_part p is.0, (number_part n is.1, tt)))
-are_parts (kind.HomeSwap top tail) is = (((omega arith, letters_from (codes "home_swap") refl), omega arith), (pointer_part top is.0, (pointer_part tail is.1, tt)))
-are_parts kind.HomeLink is = (((omega arith, letters_from (codes "home_link") refl), omega arith), tt)
-are_parts (kind.HomeTake l) is = (((omega arith, letters_from (codes "home_take") refl), omega arith), (number_part l (omega (arith, is)), tt))
-are_parts kind.HomeWalk is = (((omega arith, letters_from (codes "home_walk") refl), omega arith), tt)
+are_parts (kind.Register l n) is = (word_part (codes "register") refl refl, (number_part l (omega (arith, is.0)), (number_part n (omega (arith, is.1)), tt)))
+are_parts (kind.TakeLook l n) is = (word_part (codes "take_look") refl refl, (number_part l (omega (arith, is.0)), (number_part n (omega (arith, is.1)), tt)))
+are_parts (kind.TakeTry l n) is = (word_part (codes "take_try") refl refl, (number_part l (omega (arith, is.0)), (number_part n (omega (arith, is.1)), tt)))
+are_parts (kind.Show p) is = (word_part (codes "show") refl refl, (pointer_part p is, tt))
+are_parts (kind.Hold p) is = (word_part (codes "hold") refl refl, (pointer_part p is, tt))
+are_parts (kind.Touch p) is = (word_part (codes "touch") refl refl, (pointer_part p is, tt))
+are_parts (kind.Return p) is = (word_part (codes "return") refl refl, (pointer_part p is, tt))
+are_parts (kind.DeferLook p) is = (word_part (codes "defer_look") refl refl, (pointer_part p is, tt))
+are_parts (kind.Release p) is = (word_part (codes "release") refl refl, (pointer_part p is, tt))
+are_parts (kind.StackLook l) is = (word_part (codes "stack_look") refl refl, (number_part l (omega (arith, is)), tt))
+are_parts (kind.StackPut top tail) is = (word_part (codes "stack_put") refl refl, (pointer_part top is.0, (pointer_part tail is.1, tt)))
+are_parts (kind.HandLink p n) is = (word_part (codes "hand_link") refl refl, (pointer_part p is.0, (number_part n is.1, tt)))
+are_parts (kind.HomeSwap top tail) is = (word_part (codes "home_swap") refl refl, (pointer_part top is.0, (pointer_part tail is.1, tt)))
+are_parts (kind.HomeTake l) is = (word_part (codes "home_take") refl refl, (number_part l (omega (arith, is)), tt))
+are_parts k is = (word_part (slice_index_or (parts_of k) 0 []) refl refl, tt)
 
 pub few_parts : (k : StepKind) → length (parts_of k) ≤ 3
 few_parts (kind.Register l n) = omega arith
-few_parts kind.Unregister = omega arith
-few_parts kind.PinLook = omega arith
-few_parts kind.PinSet = omega arith
-few_parts kind.Unpin = omega arith
-few_parts (kind.TakeLook l n) = omega arith
-few_parts (kind.TakeTry l n) = omega arith
-few_parts (kind.Show p) = omega arith
-few_parts (kind.Hold p) = omega arith
-few_parts (kind.Touch p) = omega arith
-few_parts (kind.Return p) = omega arith
-few_parts (kind.DeferLook p) = omega arith
-few_parts kind.DeferSwap = omega arith
-few_parts kind.DeferLink = omega arith
-few_parts kind.ElectLocal = omega arith
-few_parts kind.ElectGlobal = omega arith
-few_parts kind.EpochLook = omega arith
-few_parts kind.ScanToken = omega arith
-few_parts kind.Advance = omega arith
-few_parts kind.Spread = omega arith
-few_parts kind.Collect = omega arith
-few_parts kind.Walk = omega arith
-few_parts (kind.Release p) = omega arith
-few_parts kind.Leave = omega arith
-few_parts (kind.StackLook l) = omega arith
-few_parts kind.StackNext = omega arith
-few_parts kind.StackPop = omega arith
-few_parts (kind.StackPut top tail) = omega arith
-few_parts (kind.HandLink p n) = omega arith
-few_parts (kind.HomeSwap top tail) = omega arith
-few_parts kind.HomeLink = omega arith
-few_parts (kind.HomeTake l) = omega arith
-few_parts kind.HomeWalk = omega arith
+few_parts k = omega arith
 
 pub says_kind : (seat : ℕ) (k : StepKind) → IsKind k → says_words run_grammar (Kind seat) (parts_of k) ≡ Ok (Some (line.Step (record { seat = seat; kind = k })))
-says_kind seat (kind.Register l n) is = number_step (Locale seat locale.Register) (between 0 255) l (decimal n ∷ []) (omega (arith, is.0)) refl refl (omega arith) (omega (arith, is.0)) ∙ number_step (Number seat number.Register l) (between 0 (2 ^ 32 - 1)) n [] (omega (arith, is.1)) refl refl (omega arith) (omega (arith, is.1))
-says_kind seat kind.Unregister is = refl
-says_kind seat kind.PinLook is = refl
-says_kind seat kind.PinSet is = refl
-says_kind seat kind.Unpin is = refl
-says_kind seat (kind.TakeLook l n) is = number_step (Locale seat locale.TakeLook) (between 0 255) l (decimal n ∷ []) (omega (arith, is.0)) refl refl (omega arith) (omega (arith, is.0)) ∙ number_step (Number seat number.TakeLook l) (between 0 (2 ^ 32 - 1)) n [] (omega (arith, is.1)) refl refl (omega arith) (omega (arith, is.1))
-says_kind seat (kind.TakeTry l n) is = number_step (Locale seat locale.TakeTry) (between 0 255) l (decimal n ∷ []) (omega (arith, is.0)) refl refl (omega arith) (omega (arith, is.0)) ∙ number_step (Number seat number.TakeTry l) (between 0 (2 ^ 32 - 1)) n [] (omega (arith, is.1)) refl refl (omega arith) (omega (arith, is.1))
+says_kind seat (kind.Register l n) is = number_step (Locale seat (locale.Number number.Register)) (between 0 255) l (decimal n ∷ []) (omega (arith, is.0)) refl refl (omega arith) (omega (arith, is.0)) ∙ number_step (Number seat number.Register l) (between 0 (2 ^ 32 - 1)) n [] (omega (arith, is.1)) refl refl (omega arith) (omega (arith, is.1))
+says_kind seat (kind.TakeLook l n) is = number_step (Locale seat (locale.Number number.TakeLook)) (between 0 255) l (decimal n ∷ []) (omega (arith, is.0)) refl refl (omega arith) (omega (arith, is.0)) ∙ number_step (Number seat number.TakeLook l) (between 0 (2 ^ 32 - 1)) n [] (omega (arith, is.1)) refl refl (omega arith) (omega (arith, is.1))
+says_kind seat (kind.TakeTry l n) is = number_step (Locale seat (locale.Number number.TakeTry)) (between 0 255) l (decimal n ∷ []) (omega (arith, is.0)) refl refl (omega arith) (omega (arith, is.0)) ∙ number_step (Number seat number.TakeTry l) (between 0 (2 ^ 32 - 1)) n [] (omega (arith, is.1)) refl refl (omega arith) (omega (arith, is.1))
 says_kind seat (kind.Show p) is = pointer_step seat pointer.Show p [] is
 says_kind seat (kind.Hold p) is = pointer_step seat pointer.Hold p [] is
 says_kind seat (kind.Touch p) is = pointer_step seat pointer.Touch p [] is
 says_kind seat (kind.Return p) is = pointer_step seat pointer.Return p [] is
 says_kind seat (kind.DeferLook p) is = pointer_step seat pointer.DeferLook p [] is
-says_kind seat kind.DeferSwap is = refl
-says_kind seat kind.DeferLink is = refl
-says_kind seat kind.ElectLocal is = refl
-says_kind seat kind.ElectGlobal is = refl
-says_kind seat kind.EpochLook is = refl
-says_kind seat kind.ScanToken is = refl
-says_kind seat kind.Advance is = refl
-says_kind seat kind.Spread is = refl
-says_kind seat kind.Collect is = refl
-says_kind seat kind.Walk is = refl
 says_kind seat (kind.Release p) is = pointer_step seat pointer.Release p [] is
-says_kind seat kind.Leave is = refl
 says_kind seat (kind.StackLook l) is = number_step (Locale seat locale.StackLook) (between 0 255) l [] (omega (arith, is)) refl refl (omega arith) (omega (arith, is))
-says_kind seat kind.StackNext is = refl
-says_kind seat kind.StackPop is = refl
-says_kind seat (kind.StackPut top tail) is = pointer_step seat pointer.StackPut top (pointer_word tail ∷ []) is.0 ∙ tail_step seat chain.StackPut top tail [] is.1
+says_kind seat (kind.StackPut top tail) is = pointer_step seat pointer.StackPut top (pointer_word tail ∷ []) is.0 ∙ pointer_step seat (pointer.StackTail top) tail [] is.1
 says_kind seat (kind.HandLink p n) is = pointer_step seat pointer.HandLink p (decimal n ∷ []) is.0 ∙ number_step (Next seat p) (between 0 (2 ^ 64 - 1)) n [] is.1 refl refl (omega arith) (omega (arith, is.1))
-says_kind seat (kind.HomeSwap top tail) is = pointer_step seat pointer.HomeSwap top (pointer_word tail ∷ []) is.0 ∙ tail_step seat chain.HomeSwap top tail [] is.1
-says_kind seat kind.HomeLink is = refl
+says_kind seat (kind.HomeSwap top tail) is = pointer_step seat pointer.HomeSwap top (pointer_word tail ∷ []) is.0 ∙ pointer_step seat (pointer.HomeTail top) tail [] is.1
 says_kind seat (kind.HomeTake l) is = number_step (Locale seat locale.HomeTake) (between 0 255) l [] (omega (arith, is)) refl refl (omega arith) (omega (arith, is))
-says_kind seat kind.HomeWalk is = refl
+says_kind seat k is = refl
 
 -- ---- a line of words
 
@@ -286,17 +187,9 @@ pub record Writes (spot : Spot) (text : List ℕ) (said : RunLine) : Type 0 wher
   pub within : AllByRecursion (λ byte. byte ≢ 10) text
   pub short : length text ≤ 320
 
-are_words : (words : List (List ℕ)) → AllByRecursion IsPart words → AreWords words
-are_words [] all = tt
-are_words (word ∷ words) all = (all.0.0, are_words words all.1)
-
-no_ends : (letters : List ℕ) → AllByRecursion IsLetter letters → AllByRecursion (λ byte. byte ≢ 10) letters
-no_ends [] all = tt
-no_ends (letter ∷ letters) all = (all.0.1, no_ends letters all.1)
-
-spaced_within : (words : List (List ℕ)) → AllByRecursion IsPart words → AllByRecursion (λ byte. byte ≢ 10) (spaced words)
-spaced_within [] all = tt
-spaced_within (word ∷ words) all = ((λ e. omega (arith, e)), all_append (λ byte. byte ≢ 10) word (spaced words) (no_ends word all.0.0.1) (spaced_within words all.1))
+all_words : (words : List (List ℕ)) → AllByRecursion IsPart words → AreWords words
+all_words [] all = tt
+all_words (word ∷ words) all = (all.0.0, all_words words all.1)
 
 spaced_short : (words : List (List ℕ)) → AllByRecursion IsPart words → length (spaced words) ≤ 63 * length words
 spaced_short [] all = omega arith
@@ -308,8 +201,8 @@ pub of_words : (spot : Spot) (letter : ℕ) (letters : List ℕ) (words : List (
 of_words spot letter letters words said sign all few says =
     let word = letter ∷ letters in
     record {
-      says = line_of_words run_grammar IsSpot spot letter letters words sign (are_words (word ∷ words) all) ∙ says;
-      within = all_append (λ byte. byte ≢ 10) word (spaced words) (no_ends word all.0.0.1) (spaced_within words all.1);
+      says = line_of_words run_grammar IsSpot spot letter letters words sign (all_words (word ∷ words) all) ∙ says;
+      within = words_within (word ∷ words) (all_words (word ∷ words) all);
       short = omega (arith, all.0.1, length-append word (spaced words), spaced_short words all.1, few);
     }
 

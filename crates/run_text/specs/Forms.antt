@@ -11,9 +11,7 @@ use Rattle.line_text.specs.Lines.{Grammar}
 use Rattle.run_text.specs.declared.forms.RunLine.{RunLine}
 use Rattle.run_text.specs.declared.forms.RunLine.TheVariants as line
 use Rattle.run_text.specs.declared.forms.Spot.{Spot}
-use Rattle.run_text.specs.declared.forms.Spot.TheVariants.{First, Version, ShapeWord, Locales, Tokens, Objects, Width, StartWord, Epoch, Count, Stack, SeatsWord, Seats, Seat, Kind, Locale, Number, Pointer, Index, Uses, Next, Tail, TailIndex, TailUses, Whole}
-use Rattle.run_text.specs.declared.verbs.ChainVerb.{ChainVerb}
-use Rattle.run_text.specs.declared.verbs.ChainVerb.TheVariants as chain
+use Rattle.run_text.specs.declared.forms.Spot.TheVariants.{First, Version, ShapeWord, Locales, Tokens, Objects, Width, StartWord, Epoch, Count, Stack, SeatsWord, Seats, Seat, Kind, Locale, Number, Pointer, Index, Uses, Next, Whole}
 use Rattle.run_text.specs.declared.verbs.LocaleVerb.{LocaleVerb}
 use Rattle.run_text.specs.declared.verbs.LocaleVerb.TheVariants as locale
 use Rattle.run_text.specs.declared.verbs.NumberVerb.{NumberVerb}
@@ -71,13 +69,13 @@ kind_word index = slice_index_or kind_words index []
 -- what stands behind each of them
 abbrev pub kind_spots : ℕ → List Spot
 kind_spots seat =
-    Locale seat locale.Register
+    Locale seat (locale.Number number.Register)
     ∷ step_spot seat kind.Unregister
     ∷ step_spot seat kind.PinLook
     ∷ step_spot seat kind.PinSet
     ∷ step_spot seat kind.Unpin
-    ∷ Locale seat locale.TakeLook
-    ∷ Locale seat locale.TakeTry
+    ∷ Locale seat (locale.Number number.TakeLook)
+    ∷ Locale seat (locale.Number number.TakeTry)
     ∷ Pointer seat pointer.Show
     ∷ Pointer seat pointer.Hold
     ∷ Pointer seat pointer.Touch
@@ -158,15 +156,10 @@ bounds_of (Pointer seat verb) = Some (between 0 15)
 bounds_of (Index seat verb locale) = Some (between 1 (2 ^ 24 - 1))
 bounds_of (Uses seat verb locale index) = Some (between 0 (2 ^ 32 - 1))
 bounds_of (Next seat ptr) = Some (between 0 (2 ^ 64 - 1))
-bounds_of (Tail seat verb top) = Some (between 0 15)
-bounds_of (TailIndex seat verb top locale) = Some (between 1 (2 ^ 24 - 1))
-bounds_of (TailUses seat verb top locale index) = Some (between 0 (2 ^ 32 - 1))
 bounds_of spot = None
 
 abbrev pub after_locale : ℕ → LocaleVerb → ℕ → Spot
-after_locale seat locale.Register l = Number seat number.Register l
-after_locale seat locale.TakeLook l = Number seat number.TakeLook l
-after_locale seat locale.TakeTry l = Number seat number.TakeTry l
+after_locale seat (locale.Number verb) l = Number seat verb l
 after_locale seat locale.StackLook l = step_spot seat (kind.StackLook l)
 after_locale seat locale.HomeTake l = step_spot seat (kind.HomeTake l)
 
@@ -182,13 +175,11 @@ after_pointer seat pointer.Touch p = step_spot seat (kind.Touch p)
 after_pointer seat pointer.Return p = step_spot seat (kind.Return p)
 after_pointer seat pointer.DeferLook p = step_spot seat (kind.DeferLook p)
 after_pointer seat pointer.Release p = step_spot seat (kind.Release p)
-after_pointer seat pointer.StackPut p = Tail seat chain.StackPut p
 after_pointer seat pointer.HandLink p = Next seat p
-after_pointer seat pointer.HomeSwap p = Tail seat chain.HomeSwap p
-
-abbrev pub after_tail : ℕ → ChainVerb → Ptr → Ptr → Spot
-after_tail seat chain.StackPut top tail = step_spot seat (kind.StackPut top tail)
-after_tail seat chain.HomeSwap top tail = step_spot seat (kind.HomeSwap top tail)
+after_pointer seat pointer.StackPut p = Pointer seat (pointer.StackTail p)
+after_pointer seat (pointer.StackTail top) p = step_spot seat (kind.StackPut top p)
+after_pointer seat pointer.HomeSwap p = Pointer seat (pointer.HomeTail p)
+after_pointer seat (pointer.HomeTail top) p = step_spot seat (kind.HomeSwap top p)
 
 abbrev pub after_number : Spot → ℕ → Spot
 after_number Locales n = Tokens n
@@ -206,9 +197,6 @@ after_number (Pointer seat verb) n = Index seat verb n
 after_number (Index seat verb locale) n = Uses seat verb locale n
 after_number (Uses seat verb locale index) n = after_pointer seat verb (record { locale = locale; index = index; count = n })
 after_number (Next seat ptr) n = step_spot seat (kind.HandLink ptr n)
-after_number (Tail seat verb top) n = TailIndex seat verb top n
-after_number (TailIndex seat verb top locale) n = TailUses seat verb top locale n
-after_number (TailUses seat verb top locale index) n = after_tail seat verb top (record { locale = locale; index = index; count = n })
 after_number spot n = spot
 
 abbrev pub says_of : Spot → Option RunLine
@@ -219,8 +207,6 @@ says_of spot = None
 abbrev pub joined_of : Spot → Bool
 joined_of (Pointer seat verb) = true
 joined_of (Index seat verb locale) = true
-joined_of (Tail seat verb top) = true
-joined_of (TailIndex seat verb top locale) = true
 joined_of spot = false
 
 abbrev pub run_grammar : Grammar Spot RunLine
@@ -246,6 +232,11 @@ IsLine said = Unit {0}
 abbrev pub IsLocales : ℕ → Type 0
 IsLocales locales = (1 ≤ locales) × (locales ≤ 16)
 
+abbrev pub IsVerb : PointerVerb → Type 0
+IsVerb (pointer.StackTail top) = IsPointer top
+IsVerb (pointer.HomeTail top) = IsPointer top
+IsVerb verb = Unit {0}
+
 abbrev pub IsSpot : Spot → Type 0
 IsSpot (Tokens locales) = IsLocales locales
 IsSpot (Objects locales tokens) = IsLocales locales × (1 ≤ tokens) × (tokens ≤ 1024)
@@ -256,12 +247,9 @@ IsSpot (Stack epoch count) = ((1 ≤ epoch) × (epoch ≤ 2 ^ 62)) × (count < 2
 IsSpot (Kind seat) = seat < 2 ^ 32
 IsSpot (Locale seat verb) = seat < 2 ^ 32
 IsSpot (Number seat verb locale) = (seat < 2 ^ 32) × (locale < 2 ^ 8)
-IsSpot (Pointer seat verb) = seat < 2 ^ 32
-IsSpot (Index seat verb locale) = (seat < 2 ^ 32) × (locale < 16)
-IsSpot (Uses seat verb locale index) = (seat < 2 ^ 32) × (locale < 16) × (1 ≤ index) × (index < 2 ^ 24)
+IsSpot (Pointer seat verb) = (seat < 2 ^ 32) × IsVerb verb
+IsSpot (Index seat verb locale) = (seat < 2 ^ 32) × IsVerb verb × (locale < 16)
+IsSpot (Uses seat verb locale index) = (seat < 2 ^ 32) × IsVerb verb × (locale < 16) × (1 ≤ index) × (index < 2 ^ 24)
 IsSpot (Next seat ptr) = (seat < 2 ^ 32) × IsPointer ptr
-IsSpot (Tail seat verb top) = (seat < 2 ^ 32) × IsPointer top
-IsSpot (TailIndex seat verb top locale) = (seat < 2 ^ 32) × IsPointer top × (locale < 16)
-IsSpot (TailUses seat verb top locale index) = (seat < 2 ^ 32) × IsPointer top × (locale < 16) × (1 ≤ index) × (index < 2 ^ 24)
 IsSpot (Whole line) = IsLine line
 IsSpot spot = Unit {0}

@@ -1,105 +1,55 @@
 -- The forms of a line of a run are a grammar.
-use Rattle.std.proofs.Common.{◌≡◌, ℕ, zero, suc, ◌+◌, ◌-◌, ◌*◌, ◌/◌, ◌<◌, ◌≤◌, ◌^◌, ◌&&◌, Bool, true, false, List, [], ◌∷◌, length, slice_index_or, Some, Ok, codes, refl, ap, ◌∙◌, arith, subst, inr}
+use Rattle.std.proofs.Common.{◌≡◌, ℕ, zero, suc, ◌+◌, ◌-◌, ◌*◌, ◌/◌, ◌<◌, ◌≤◌, ◌^◌, ◌&&◌, Bool, true, false, List, [], ◌∷◌, ◌++◌, length, slice_index_or, Some, None, Ok, codes, refl, ap, ◌∙◌, arith, subst, inr}
 use Rattle.std.specs.List.{AllByRecursion}
 use Rattle.std.proofs.Math.Nat.{div-mul-le_self}
-use Rattle.std.proofs.lemmas.Bool.{and_parts, false≢true}
+use Rattle.std.proofs.lemmas.Bool.{false≢true}
 use Rattle.std.proofs.lemmas.Nat.{le-div, mul-le}
 use Rattle.std.proofs.lemmas.Option.{none-some, same_Some}
 use Rattle.line_text.specs.declared.forms.Bounds.{Bounds}
-use Rattle.line_text.specs.Letters.{are_letters, letters_from}
-use Rattle.line_text.specs.Lines.{IsGrammar, IsBounds, MayJoin, then_leads, says_words, word_leads, word_at}
-use Rattle.line_text.specs.Words.{cut, words_of as words_in, AreLetters}
+use Rattle.line_text.specs.Letters.{words_from, all_at}
+use Rattle.line_text.specs.Lines.{IsGrammar, IsBounds, MayJoin, then_leads, says_number, says_words, word_leads, word_at}
+use Rattle.line_text.specs.Words.{Cut, cut, with_letter, words_of as words_in, AreLetters}
 use Rattle.line_text.proofs.WrittenWords.{number_leads_on}
 use Rattle.epoch_laws.specs.declared.steps.Kind.TheVariants as kind
 use Rattle.run_text.specs.declared.forms.RunLine.{RunLine}
 use Rattle.run_text.specs.declared.forms.RunLine.TheVariants as line
 use Rattle.run_text.specs.declared.forms.Spot.{Spot}
-use Rattle.run_text.specs.declared.forms.Spot.TheVariants.{First, Version, ShapeWord, Locales, Tokens, Objects, Width, StartWord, Epoch, Count, Stack, SeatsWord, Seats, Seat, Kind, Locale, Number, Pointer, Index, Uses, Next, Tail, TailIndex, TailUses, Whole}
-use Rattle.run_text.specs.declared.verbs.ChainVerb.TheVariants as chain
+use Rattle.run_text.specs.declared.forms.Spot.TheVariants.{First, Version, ShapeWord, Locales, Tokens, Objects, Width, StartWord, Epoch, Count, Stack, SeatsWord, Seats, Seat, Kind, Locale, Number, Pointer, Index, Uses, Next, Whole}
 use Rattle.run_text.specs.declared.verbs.LocaleVerb.TheVariants as locale
 use Rattle.run_text.specs.declared.verbs.NumberVerb.TheVariants as number
+use Rattle.run_text.specs.declared.verbs.PointerVerb.{PointerVerb}
 use Rattle.run_text.specs.declared.verbs.PointerVerb.TheVariants as pointer
-use Rattle.pgas_base.specs.Pointers.{IsPointer}
-use Rattle.run_text.specs.Forms.{kind_words, kind_spots, words_of, after_word, between, objects_most, width_most, bounds_of, after_locale, after_number_of, after_pointer, after_tail, after_number, joined_of, run_grammar, IsSpot}
-
--- ---- lists
-
--- what holds of all holds of one
-pub at_all : {A : Type 0} (P : A → Type 0) (xs : List A) (index : ℕ) (d : A) → AllByRecursion P xs → index < length xs → P (slice_index_or xs index d)
-at_all P [] index d all within = absurd (omega (arith, within))
-at_all P (x ∷ xs) zero d all within = all.0
-at_all P (x ∷ xs) (suc index) d all within = at_all P xs index d all.1 (omega (arith, within))
-
-abbrev are_words : List (List ℕ) → Bool
-are_words [] = true
-are_words ([] ∷ words) = false
-are_words ((letter ∷ letters) ∷ words) = are_letters (letter ∷ letters) && are_words words
-
-words_from : (words : List (List ℕ)) → are_words words ≡ true → AllByRecursion AreLetters words
-words_from [] is = tt
-words_from ([] ∷ words) is = absurd (false≢true is)
-words_from ((letter ∷ letters) ∷ words) is =
-    let parts = and_parts (are_letters (letter ∷ letters)) (are_words words) is in ((omega arith, letters_from (letter ∷ letters) parts.0), words_from words parts.1)
+use Rattle.pgas_base.specs.Pointers.{Pointer as Ptr, IsPointer}
+use Rattle.run_text.specs.Forms.{kind_words, kind_spots, words_of, after_word, between, objects_most, width_most, bounds_of, after_locale, after_number_of, after_pointer, after_number, joined_of, run_grammar, IsVerb, IsSpot}
 
 -- ---- words
 
 kinds_keep : (seat : ℕ) → seat < 2 ^ 32 → AllByRecursion IsSpot (kind_spots seat)
 kinds_keep seat is =
-    (is, ((is, tt), ((is, tt), ((is, tt), ((is, tt), (is, (is, (is, (is, (is, (is, (is, ((is, tt), ((is, tt), ((is, tt), ((is, tt), ((is, tt), ((is, tt), ((is, tt), ((is, tt), ((is, tt), ((is, tt), (is, ((is, tt), (is, ((is, tt), ((is, tt), (is, (is, (is, ((is, tt), (is, ((is, tt), tt)))))))))))))))))))))))))))))))))
+    (is, ((is, tt), ((is, tt), ((is, tt), ((is, tt), (is, (is, ((is, tt), ((is, tt), ((is, tt), ((is, tt), ((is, tt), ((is, tt), ((is, tt), ((is, tt), ((is, tt), ((is, tt), ((is, tt), ((is, tt), ((is, tt), ((is, tt), ((is, tt), ((is, tt), ((is, tt), (is, ((is, tt), ((is, tt), ((is, tt), ((is, tt), ((is, tt), ((is, tt), (is, ((is, tt), tt)))))))))))))))))))))))))))))))))
 
 word_keeps : (spot : Spot) (index : ℕ) → IsSpot spot → index < length (words_of spot) → IsSpot (after_word spot index)
 word_keeps First index is within = tt
 word_keeps Version index is within = tt
 word_keeps ShapeWord index is within = tt
 word_keeps Locales index is within = tt
-word_keeps (Tokens locales) index is within = is
-word_keeps (Objects locales tokens) index is within = is
-word_keeps (Width locales tokens objects) index is within = is
 word_keeps StartWord index is within = tt
 word_keeps Epoch index is within = tt
-word_keeps (Count epoch) index is within = is
-word_keeps (Stack epoch count) index is within = is
 word_keeps SeatsWord index is within = tt
 word_keeps Seats index is within = tt
 word_keeps Seat index is within = tt
-word_keeps (Kind seat) index is within = at_all IsSpot (kind_spots seat) index (Kind seat) (kinds_keep seat is) within
-word_keeps (Locale seat verb) index is within = is
-word_keeps (Number seat verb locale) index is within = is
-word_keeps (Pointer seat verb) index is within = is
-word_keeps (Index seat verb locale) index is within = is
-word_keeps (Uses seat verb locale i) index is within = is
-word_keeps (Next seat ptr) index is within = is
-word_keeps (Tail seat verb top) index is within = is
-word_keeps (TailIndex seat verb top locale) index is within = is
-word_keeps (TailUses seat verb top locale i) index is within = is
-word_keeps (Whole line) index is within = is
+word_keeps (Kind seat) index is within = all_at IsSpot (kind_spots seat) index (Kind seat) within (kinds_keep seat is)
+word_keeps spot index is within = is
 
 letters : (spot : Spot) (index : ℕ) → IsSpot spot → index < length (words_of spot) → AreLetters (word_at run_grammar spot index)
-letters First index is within = at_all AreLetters (codes "pgas-run" ∷ []) index [] (words_from (codes "pgas-run" ∷ []) refl) within
-letters Version index is within = at_all AreLetters (codes "1" ∷ []) index [] (words_from (codes "1" ∷ []) refl) within
-letters ShapeWord index is within = at_all AreLetters (codes "shape" ∷ []) index [] (words_from (codes "shape" ∷ []) refl) within
-letters Locales index is within = absurd (omega (arith, within))
-letters (Tokens locales) index is within = absurd (omega (arith, within))
-letters (Objects locales tokens) index is within = absurd (omega (arith, within))
-letters (Width locales tokens objects) index is within = absurd (omega (arith, within))
-letters StartWord index is within = at_all AreLetters (codes "start" ∷ []) index [] (words_from (codes "start" ∷ []) refl) within
-letters Epoch index is within = absurd (omega (arith, within))
-letters (Count epoch) index is within = absurd (omega (arith, within))
-letters (Stack epoch count) index is within = absurd (omega (arith, within))
-letters SeatsWord index is within = at_all AreLetters (codes "seats" ∷ []) index [] (words_from (codes "seats" ∷ []) refl) within
-letters Seats index is within = absurd (omega (arith, within))
-letters Seat index is within = at_all AreLetters (codes "end" ∷ []) index [] (words_from (codes "end" ∷ []) refl) within
-letters (Kind seat) index is within = at_all AreLetters (kind_words) index [] (words_from (kind_words) refl) within
-letters (Locale seat verb) index is within = absurd (omega (arith, within))
-letters (Number seat verb locale) index is within = absurd (omega (arith, within))
-letters (Pointer seat verb) index is within = absurd (omega (arith, within))
-letters (Index seat verb locale) index is within = absurd (omega (arith, within))
-letters (Uses seat verb locale i) index is within = absurd (omega (arith, within))
-letters (Next seat ptr) index is within = absurd (omega (arith, within))
-letters (Tail seat verb top) index is within = absurd (omega (arith, within))
-letters (TailIndex seat verb top locale) index is within = absurd (omega (arith, within))
-letters (TailUses seat verb top locale i) index is within = absurd (omega (arith, within))
-letters (Whole line) index is within = absurd (omega (arith, within))
+letters First index is within = all_at AreLetters (codes "pgas-run" ∷ []) index [] within (words_from (codes "pgas-run" ∷ []) refl)
+letters Version index is within = all_at AreLetters (codes "1" ∷ []) index [] within (words_from (codes "1" ∷ []) refl)
+letters ShapeWord index is within = all_at AreLetters (codes "shape" ∷ []) index [] within (words_from (codes "shape" ∷ []) refl)
+letters StartWord index is within = all_at AreLetters (codes "start" ∷ []) index [] within (words_from (codes "start" ∷ []) refl)
+letters SeatsWord index is within = all_at AreLetters (codes "seats" ∷ []) index [] within (words_from (codes "seats" ∷ []) refl)
+letters Seat index is within = all_at AreLetters (codes "end" ∷ []) index [] within (words_from (codes "end" ∷ []) refl)
+letters (Kind seat) index is within = all_at AreLetters kind_words index [] within (words_from kind_words refl)
+letters spot index is within = absurd (omega (arith, within))
 
 -- ---- bounds
 
@@ -122,31 +72,22 @@ between_sound : (least most : ℕ) → least ≤ 9 → least ≤ most → most <
 between_sound least most digit some fits = record { digit = digit; some = some; fits = fits; one_sided = inr refl }
 
 bounds_sound : (spot : Spot) (bounds : Bounds) → IsSpot spot → bounds_of spot ≡ Some bounds → IsBounds bounds
-bounds_sound First own is same = absurd (none-some own same)
-bounds_sound Version own is same = absurd (none-some own same)
-bounds_sound ShapeWord own is same = absurd (none-some own same)
 bounds_sound Locales own is same = subst IsBounds (same_Some (between 1 16) own same) (between_sound 1 16 (omega arith) (omega arith) (omega arith))
 bounds_sound (Tokens locales) own is same = subst IsBounds (same_Some (between 1 1024) own same) (between_sound 1 1024 (omega arith) (omega arith) (omega arith))
 bounds_sound (Objects locales tokens) own is same = subst IsBounds (same_Some (between 1 (objects_most locales)) own same) (between_sound 1 (objects_most locales) (omega arith) (objects_some locales is.0.0 is.0.1) (omega arith))
 bounds_sound (Width locales tokens objects) own is same = subst IsBounds (same_Some (between 2 (width_most locales objects)) own same) (between_sound 2 (width_most locales objects) (omega arith) (width_some locales objects is.0.0 is.2.0 is.3) (omega arith))
-bounds_sound StartWord own is same = absurd (none-some own same)
 bounds_sound Epoch own is same = subst IsBounds (same_Some (between 1 (2 ^ 62)) own same) (between_sound 1 (2 ^ 62) (omega arith) (omega arith) (omega arith))
 bounds_sound (Count epoch) own is same = subst IsBounds (same_Some (between 0 (2 ^ 32 - 1)) own same) (between_sound 0 (2 ^ 32 - 1) (omega arith) (omega arith) (omega arith))
 bounds_sound (Stack epoch count) own is same = subst IsBounds (same_Some (between 0 (2 ^ 40 - 1)) own same) (between_sound 0 (2 ^ 40 - 1) (omega arith) (omega arith) (omega arith))
-bounds_sound SeatsWord own is same = absurd (none-some own same)
 bounds_sound Seats own is same = subst IsBounds (same_Some (between 1 1024) own same) (between_sound 1 1024 (omega arith) (omega arith) (omega arith))
 bounds_sound Seat own is same = subst IsBounds (same_Some (between 0 (2 ^ 32 - 1)) own same) (between_sound 0 (2 ^ 32 - 1) (omega arith) (omega arith) (omega arith))
-bounds_sound (Kind seat) own is same = absurd (none-some own same)
 bounds_sound (Locale seat verb) own is same = subst IsBounds (same_Some (between 0 255) own same) (between_sound 0 255 (omega arith) (omega arith) (omega arith))
 bounds_sound (Number seat verb locale) own is same = subst IsBounds (same_Some (between 0 (2 ^ 32 - 1)) own same) (between_sound 0 (2 ^ 32 - 1) (omega arith) (omega arith) (omega arith))
 bounds_sound (Pointer seat verb) own is same = subst IsBounds (same_Some (between 0 15) own same) (between_sound 0 15 (omega arith) (omega arith) (omega arith))
 bounds_sound (Index seat verb locale) own is same = subst IsBounds (same_Some (between 1 (2 ^ 24 - 1)) own same) (between_sound 1 (2 ^ 24 - 1) (omega arith) (omega arith) (omega arith))
 bounds_sound (Uses seat verb locale i) own is same = subst IsBounds (same_Some (between 0 (2 ^ 32 - 1)) own same) (between_sound 0 (2 ^ 32 - 1) (omega arith) (omega arith) (omega arith))
 bounds_sound (Next seat ptr) own is same = subst IsBounds (same_Some (between 0 (2 ^ 64 - 1)) own same) (between_sound 0 (2 ^ 64 - 1) (omega arith) (omega arith) (omega arith))
-bounds_sound (Tail seat verb top) own is same = subst IsBounds (same_Some (between 0 15) own same) (between_sound 0 15 (omega arith) (omega arith) (omega arith))
-bounds_sound (TailIndex seat verb top locale) own is same = subst IsBounds (same_Some (between 1 (2 ^ 24 - 1)) own same) (between_sound 1 (2 ^ 24 - 1) (omega arith) (omega arith) (omega arith))
-bounds_sound (TailUses seat verb top locale i) own is same = subst IsBounds (same_Some (between 0 (2 ^ 32 - 1)) own same) (between_sound 0 (2 ^ 32 - 1) (omega arith) (omega arith) (omega arith))
-bounds_sound (Whole line) own is same = absurd (none-some own same)
+bounds_sound spot own is same = absurd (none-some own same)
 
 -- ---- numbers
 
@@ -163,9 +104,7 @@ width_fits locales objects n some some_object few below =
     let product = mul_quotient (2 ^ 25) (locales * objects) (n + 2) (omega (arith, room, below)) in omega (arith, product)
 
 locale_keeps : (seat : ℕ) (verb : _) (l : ℕ) → seat < 2 ^ 32 → l < 2 ^ 8 → IsSpot (after_locale seat verb l)
-locale_keeps seat locale.Register l is fits = (is, fits)
-locale_keeps seat locale.TakeLook l is fits = (is, fits)
-locale_keeps seat locale.TakeTry l is fits = (is, fits)
+locale_keeps seat (locale.Number verb) l is fits = (is, fits)
 locale_keeps seat locale.StackLook l is fits = (is, fits)
 locale_keeps seat locale.HomeTake l is fits = (is, fits)
 
@@ -174,47 +113,28 @@ number_of_keeps seat number.Register l n is fits other = (is, (fits, other))
 number_of_keeps seat number.TakeLook l n is fits other = (is, (fits, other))
 number_of_keeps seat number.TakeTry l n is fits other = (is, (fits, other))
 
-pointer_keeps : (seat : ℕ) (verb : _) (p : _) → seat < 2 ^ 32 → IsPointer p → IsSpot (after_pointer seat verb p)
-pointer_keeps seat pointer.Show p is points = (is, points)
-pointer_keeps seat pointer.Hold p is points = (is, points)
-pointer_keeps seat pointer.Touch p is points = (is, points)
-pointer_keeps seat pointer.Return p is points = (is, points)
-pointer_keeps seat pointer.DeferLook p is points = (is, points)
-pointer_keeps seat pointer.Release p is points = (is, points)
-pointer_keeps seat pointer.StackPut p is points = (is, points)
-pointer_keeps seat pointer.HandLink p is points = (is, points)
-pointer_keeps seat pointer.HomeSwap p is points = (is, points)
-
-tail_keeps : (seat : ℕ) (verb : _) (top tail : _) → seat < 2 ^ 32 → IsPointer top → IsPointer tail → IsSpot (after_tail seat verb top tail)
-tail_keeps seat chain.StackPut top tail is points other = (is, (points, other))
-tail_keeps seat chain.HomeSwap top tail is points other = (is, (points, other))
+pointer_keeps : (seat : ℕ) (verb : PointerVerb) (p : Ptr) → seat < 2 ^ 32 → IsVerb verb → IsPointer p → IsSpot (after_pointer seat verb p)
+pointer_keeps seat (pointer.StackTail top) p is own points = (is, (own, points))
+pointer_keeps seat (pointer.HomeTail top) p is own points = (is, (own, points))
+pointer_keeps seat verb p is own points = (is, points)
 
 number_keeps : (spot : Spot) (bounds : Bounds) (n : ℕ) → IsSpot spot → bounds_of spot ≡ Some bounds → bounds.least ≤ n → n ≤ bounds.most → IsSpot (after_number spot n)
-number_keeps First bounds n is own least most = absurd (none-some bounds own)
-number_keeps Version bounds n is own least most = absurd (none-some bounds own)
-number_keeps ShapeWord bounds n is own least most = absurd (none-some bounds own)
 number_keeps Locales bounds n is own least most = let r = ranged (between 1 16) bounds n own least most in r
 number_keeps (Tokens locales) bounds n is own least most = let r = ranged (between 1 1024) bounds n own least most in (is, r.0, r.1)
 number_keeps (Objects locales tokens) bounds n is own least most = let r = ranged (between 1 (objects_most locales)) bounds n own least most in (is.0, (is.1, is.2), (r.0, omega (arith, r.1)), objects_room locales n r.1)
 number_keeps (Width locales tokens objects) bounds n is own least most = let r = ranged (between 2 (width_most locales objects)) bounds n own least most in (is.0, is.1, is.2, (r.0, omega (arith, r.1)), width_fits locales objects n is.0.0 is.2.0 is.3 r.1)
-number_keeps StartWord bounds n is own least most = absurd (none-some bounds own)
 number_keeps Epoch bounds n is own least most = let r = ranged (between 1 (2 ^ 62)) bounds n own least most in r
 number_keeps (Count epoch) bounds n is own least most = let r = ranged (between 0 (2 ^ 32 - 1)) bounds n own least most in (is, omega (arith, r.1))
 number_keeps (Stack epoch count) bounds n is own least most = let r = ranged (between 0 (2 ^ 40 - 1)) bounds n own least most in (record { some_epoch = is.0.0; epoch = is.0.1; stack = omega (arith, r.1) }, is.1)
-number_keeps SeatsWord bounds n is own least most = absurd (none-some bounds own)
 number_keeps Seats bounds n is own least most = let r = ranged (between 1 1024) bounds n own least most in r
 number_keeps Seat bounds n is own least most = let r = ranged (between 0 (2 ^ 32 - 1)) bounds n own least most in omega (arith, r.1)
-number_keeps (Kind seat) bounds n is own least most = absurd (none-some bounds own)
 number_keeps (Locale seat verb) bounds n is own least most = let r = ranged (between 0 255) bounds n own least most in locale_keeps seat verb n is (omega (arith, r.1))
 number_keeps (Number seat verb locale) bounds n is own least most = let r = ranged (between 0 (2 ^ 32 - 1)) bounds n own least most in number_of_keeps seat verb locale n is.0 is.1 (omega (arith, r.1))
-number_keeps (Pointer seat verb) bounds n is own least most = let r = ranged (between 0 15) bounds n own least most in (is, omega (arith, r.1))
-number_keeps (Index seat verb locale) bounds n is own least most = let r = ranged (between 1 (2 ^ 24 - 1)) bounds n own least most in (is.0, is.1, r.0, omega (arith, r.1))
-number_keeps (Uses seat verb locale i) bounds n is own least most = let r = ranged (between 0 (2 ^ 32 - 1)) bounds n own least most in pointer_keeps seat verb (record { locale = locale; index = i; count = n }) is.0 (record { locale = is.1; some_object = is.2; index = is.3; count = omega (arith, r.1) })
+number_keeps (Pointer seat verb) bounds n is own least most = let r = ranged (between 0 15) bounds n own least most in (is.0, is.1, omega (arith, r.1))
+number_keeps (Index seat verb locale) bounds n is own least most = let r = ranged (between 1 (2 ^ 24 - 1)) bounds n own least most in (is.0, is.1, is.2, r.0, omega (arith, r.1))
+number_keeps (Uses seat verb locale i) bounds n is own least most = let r = ranged (between 0 (2 ^ 32 - 1)) bounds n own least most in pointer_keeps seat verb (record { locale = locale; index = i; count = n }) is.0 is.1 (record { locale = is.2; some_object = is.3; index = is.4; count = omega (arith, r.1) })
 number_keeps (Next seat ptr) bounds n is own least most = let r = ranged (between 0 (2 ^ 64 - 1)) bounds n own least most in (is.0, (is.1, omega (arith, r.1)))
-number_keeps (Tail seat verb top) bounds n is own least most = let r = ranged (between 0 15) bounds n own least most in (is.0, is.1, omega (arith, r.1))
-number_keeps (TailIndex seat verb top locale) bounds n is own least most = let r = ranged (between 1 (2 ^ 24 - 1)) bounds n own least most in (is.0, is.1, is.2, r.0, omega (arith, r.1))
-number_keeps (TailUses seat verb top locale i) bounds n is own least most = let r = ranged (between 0 (2 ^ 32 - 1)) bounds n own least most in tail_keeps seat verb top (record { locale = locale; index = i; count = n }) is.0 is.1 (record { locale = is.2; some_object = is.3; index = is.4; count = omega (arith, r.1) })
-number_keeps (Whole line) bounds n is own least most = absurd (none-some bounds own)
+number_keeps spot bounds n is own least most = absurd (none-some bounds own)
 
 -- ---- each form goes on
 
@@ -245,85 +165,52 @@ tokens_goes : (locales : ℕ) → IsSpot (Tokens locales)
     → says_words run_grammar (Tokens locales) (codes "1" ∷ codes "1" ∷ codes "2" ∷ []) ≡ Ok (Some (line.Shape (record { locales = locales; tokens = 1; objects = 1; width = 2 })))
 tokens_goes locales is = objects_goes locales 1 (is, omega arith, omega arith)
 
-pointer_goes : (seat : ℕ) (verb : _) → GoesFrom (Pointer seat verb)
-pointer_goes seat pointer.Show = (codes "0.1.0", line.Step (record { seat = seat; kind = kind.Show (record { locale = 0; index = 1; count = 0 }) }), refl)
-pointer_goes seat pointer.Hold = (codes "0.1.0", line.Step (record { seat = seat; kind = kind.Hold (record { locale = 0; index = 1; count = 0 }) }), refl)
-pointer_goes seat pointer.Touch = (codes "0.1.0", line.Step (record { seat = seat; kind = kind.Touch (record { locale = 0; index = 1; count = 0 }) }), refl)
-pointer_goes seat pointer.Return = (codes "0.1.0", line.Step (record { seat = seat; kind = kind.Return (record { locale = 0; index = 1; count = 0 }) }), refl)
-pointer_goes seat pointer.DeferLook = (codes "0.1.0", line.Step (record { seat = seat; kind = kind.DeferLook (record { locale = 0; index = 1; count = 0 }) }), refl)
-pointer_goes seat pointer.Release = (codes "0.1.0", line.Step (record { seat = seat; kind = kind.Release (record { locale = 0; index = 1; count = 0 }) }), refl)
-pointer_goes seat pointer.StackPut = (codes "0.1.0 0.1.0", line.Step (record { seat = seat; kind = kind.StackPut (record { locale = 0; index = 1; count = 0 }) (record { locale = 0; index = 1; count = 0 }) }), refl)
-pointer_goes seat pointer.HandLink = (codes "0.1.0 0", line.Step (record { seat = seat; kind = kind.HandLink (record { locale = 0; index = 1; count = 0 }) 0 }), refl)
-pointer_goes seat pointer.HomeSwap = (codes "0.1.0 0.1.0", line.Step (record { seat = seat; kind = kind.HomeSwap (record { locale = 0; index = 1; count = 0 }) (record { locale = 0; index = 1; count = 0 }) }), refl)
+-- the least pointer of a locale
+abbrev least : ℕ → Ptr
+least l = record { locale = l; index = 1; count = 0 }
 
-uses_goes : (seat : ℕ) (verb : _) (l i : ℕ) → GoesFrom (Uses seat verb l i)
-uses_goes seat pointer.Show l i = (codes "0", line.Step (record { seat = seat; kind = kind.Show (record { locale = l; index = i; count = 0 }) }), refl)
-uses_goes seat pointer.Hold l i = (codes "0", line.Step (record { seat = seat; kind = kind.Hold (record { locale = l; index = i; count = 0 }) }), refl)
-uses_goes seat pointer.Touch l i = (codes "0", line.Step (record { seat = seat; kind = kind.Touch (record { locale = l; index = i; count = 0 }) }), refl)
-uses_goes seat pointer.Return l i = (codes "0", line.Step (record { seat = seat; kind = kind.Return (record { locale = l; index = i; count = 0 }) }), refl)
-uses_goes seat pointer.DeferLook l i = (codes "0", line.Step (record { seat = seat; kind = kind.DeferLook (record { locale = l; index = i; count = 0 }) }), refl)
-uses_goes seat pointer.Release l i = (codes "0", line.Step (record { seat = seat; kind = kind.Release (record { locale = l; index = i; count = 0 }) }), refl)
-uses_goes seat pointer.StackPut l i = (codes "0 0.1.0", line.Step (record { seat = seat; kind = kind.StackPut (record { locale = l; index = i; count = 0 }) (record { locale = 0; index = 1; count = 0 }) }), refl)
-uses_goes seat pointer.HandLink l i = (codes "0 0", line.Step (record { seat = seat; kind = kind.HandLink (record { locale = l; index = i; count = 0 }) 0 }), refl)
-uses_goes seat pointer.HomeSwap l i = (codes "0 0.1.0", line.Step (record { seat = seat; kind = kind.HomeSwap (record { locale = l; index = i; count = 0 }) (record { locale = 0; index = 1; count = 0 }) }), refl)
+-- what may stand behind a pointer, and what the step then says
+abbrev Behind : ℕ → PointerVerb → Ptr → Type 0
+Behind seat verb p =
+    (rest : List ℕ) × (words : List (List ℕ)) × (said : RunLine) × (cut rest ≡ record { word = []; others = words }) × (says_words run_grammar (after_pointer seat verb p) words ≡ Ok (Some said))
 
-index_goes : (seat : ℕ) (verb : _) (l : ℕ) → GoesFrom (Index seat verb l)
-index_goes seat pointer.Show l = (codes "1.0", line.Step (record { seat = seat; kind = kind.Show (record { locale = l; index = 1; count = 0 }) }), refl)
-index_goes seat pointer.Hold l = (codes "1.0", line.Step (record { seat = seat; kind = kind.Hold (record { locale = l; index = 1; count = 0 }) }), refl)
-index_goes seat pointer.Touch l = (codes "1.0", line.Step (record { seat = seat; kind = kind.Touch (record { locale = l; index = 1; count = 0 }) }), refl)
-index_goes seat pointer.Return l = (codes "1.0", line.Step (record { seat = seat; kind = kind.Return (record { locale = l; index = 1; count = 0 }) }), refl)
-index_goes seat pointer.DeferLook l = (codes "1.0", line.Step (record { seat = seat; kind = kind.DeferLook (record { locale = l; index = 1; count = 0 }) }), refl)
-index_goes seat pointer.Release l = (codes "1.0", line.Step (record { seat = seat; kind = kind.Release (record { locale = l; index = 1; count = 0 }) }), refl)
-index_goes seat pointer.StackPut l = (codes "1.0 0.1.0", line.Step (record { seat = seat; kind = kind.StackPut (record { locale = l; index = 1; count = 0 }) (record { locale = 0; index = 1; count = 0 }) }), refl)
-index_goes seat pointer.HandLink l = (codes "1.0 0", line.Step (record { seat = seat; kind = kind.HandLink (record { locale = l; index = 1; count = 0 }) 0 }), refl)
-index_goes seat pointer.HomeSwap l = (codes "1.0 0.1.0", line.Step (record { seat = seat; kind = kind.HomeSwap (record { locale = l; index = 1; count = 0 }) (record { locale = 0; index = 1; count = 0 }) }), refl)
+behind : (seat : ℕ) (verb : PointerVerb) (p : Ptr) → Behind seat verb p
+behind seat pointer.Show p = ([], [], line.Step (record { seat = seat; kind = kind.Show p }), refl, refl)
+behind seat pointer.Hold p = ([], [], line.Step (record { seat = seat; kind = kind.Hold p }), refl, refl)
+behind seat pointer.Touch p = ([], [], line.Step (record { seat = seat; kind = kind.Touch p }), refl, refl)
+behind seat pointer.Return p = ([], [], line.Step (record { seat = seat; kind = kind.Return p }), refl, refl)
+behind seat pointer.DeferLook p = ([], [], line.Step (record { seat = seat; kind = kind.DeferLook p }), refl, refl)
+behind seat pointer.Release p = ([], [], line.Step (record { seat = seat; kind = kind.Release p }), refl, refl)
+behind seat pointer.HandLink p = (codes " 0", codes "0" ∷ [], line.Step (record { seat = seat; kind = kind.HandLink p 0 }), refl, refl)
+behind seat pointer.StackPut p = (codes " 0.1.0", codes "0.1.0" ∷ [], line.Step (record { seat = seat; kind = kind.StackPut p (least 0) }), refl, refl)
+behind seat (pointer.StackTail top) p = ([], [], line.Step (record { seat = seat; kind = kind.StackPut top p }), refl, refl)
+behind seat pointer.HomeSwap p = (codes " 0.1.0", codes "0.1.0" ∷ [], line.Step (record { seat = seat; kind = kind.HomeSwap p (least 0) }), refl, refl)
+behind seat (pointer.HomeTail top) p = ([], [], line.Step (record { seat = seat; kind = kind.HomeSwap top p }), refl, refl)
 
-index_joins : (seat : ℕ) (verb : _) (l : ℕ) → MayJoin run_grammar (Index seat verb l)
-index_joins seat pointer.Show l = (codes "1.0", line.Step (record { seat = seat; kind = kind.Show (record { locale = l; index = 1; count = 0 }) }), refl)
-index_joins seat pointer.Hold l = (codes "1.0", line.Step (record { seat = seat; kind = kind.Hold (record { locale = l; index = 1; count = 0 }) }), refl)
-index_joins seat pointer.Touch l = (codes "1.0", line.Step (record { seat = seat; kind = kind.Touch (record { locale = l; index = 1; count = 0 }) }), refl)
-index_joins seat pointer.Return l = (codes "1.0", line.Step (record { seat = seat; kind = kind.Return (record { locale = l; index = 1; count = 0 }) }), refl)
-index_joins seat pointer.DeferLook l = (codes "1.0", line.Step (record { seat = seat; kind = kind.DeferLook (record { locale = l; index = 1; count = 0 }) }), refl)
-index_joins seat pointer.Release l = (codes "1.0", line.Step (record { seat = seat; kind = kind.Release (record { locale = l; index = 1; count = 0 }) }), refl)
-index_joins seat pointer.StackPut l = (codes "1.0 0.1.0", line.Step (record { seat = seat; kind = kind.StackPut (record { locale = l; index = 1; count = 0 }) (record { locale = 0; index = 1; count = 0 }) }), refl)
-index_joins seat pointer.HandLink l = (codes "1.0 0", line.Step (record { seat = seat; kind = kind.HandLink (record { locale = l; index = 1; count = 0 }) 0 }), refl)
-index_joins seat pointer.HomeSwap l = (codes "1.0 0.1.0", line.Step (record { seat = seat; kind = kind.HomeSwap (record { locale = l; index = 1; count = 0 }) (record { locale = 0; index = 1; count = 0 }) }), refl)
+abbrev lettered : List ℕ → Cut → Cut
+lettered [] cut = cut
+lettered (letter ∷ letters) cut = with_letter letter (lettered letters cut)
 
-uses_joins : (seat : ℕ) (verb : _) (l i : ℕ) → MayJoin run_grammar (Uses seat verb l i)
-uses_joins seat pointer.Show l i = (codes "0", line.Step (record { seat = seat; kind = kind.Show (record { locale = l; index = i; count = 0 }) }), refl)
-uses_joins seat pointer.Hold l i = (codes "0", line.Step (record { seat = seat; kind = kind.Hold (record { locale = l; index = i; count = 0 }) }), refl)
-uses_joins seat pointer.Touch l i = (codes "0", line.Step (record { seat = seat; kind = kind.Touch (record { locale = l; index = i; count = 0 }) }), refl)
-uses_joins seat pointer.Return l i = (codes "0", line.Step (record { seat = seat; kind = kind.Return (record { locale = l; index = i; count = 0 }) }), refl)
-uses_joins seat pointer.DeferLook l i = (codes "0", line.Step (record { seat = seat; kind = kind.DeferLook (record { locale = l; index = i; count = 0 }) }), refl)
-uses_joins seat pointer.Release l i = (codes "0", line.Step (record { seat = seat; kind = kind.Release (record { locale = l; index = i; count = 0 }) }), refl)
-uses_joins seat pointer.StackPut l i = (codes "0 0.1.0", line.Step (record { seat = seat; kind = kind.StackPut (record { locale = l; index = i; count = 0 }) (record { locale = 0; index = 1; count = 0 }) }), refl)
-uses_joins seat pointer.HandLink l i = (codes "0 0", line.Step (record { seat = seat; kind = kind.HandLink (record { locale = l; index = i; count = 0 }) 0 }), refl)
-uses_joins seat pointer.HomeSwap l i = (codes "0 0.1.0", line.Step (record { seat = seat; kind = kind.HomeSwap (record { locale = l; index = i; count = 0 }) (record { locale = 0; index = 1; count = 0 }) }), refl)
+module _ (seat : ℕ) (verb : PointerVerb) where
+  pointer_goes : GoesFrom (Pointer seat verb)
+  pointer_goes = let b = behind seat verb (least 0) in (codes "0.1.0" ++ b.0, b.2, ap (λ (c : Cut). says_words run_grammar (Pointer seat verb) (words_in (lettered (codes "0.1.0") c))) b.3 ∙ b.4)
 
-tail_goes : (seat : ℕ) (verb : _) (top : _) → GoesFrom (Tail seat verb top)
-tail_goes seat chain.StackPut top = (codes "0.1.0", line.Step (record { seat = seat; kind = kind.StackPut top (record { locale = 0; index = 1; count = 0 }) }), refl)
-tail_goes seat chain.HomeSwap top = (codes "0.1.0", line.Step (record { seat = seat; kind = kind.HomeSwap top (record { locale = 0; index = 1; count = 0 }) }), refl)
+  index_goes : (l : ℕ) → GoesFrom (Index seat verb l)
+  index_goes l = let b = behind seat verb (least l) in (codes "1.0" ++ b.0, b.2, ap (λ (c : Cut). says_words run_grammar (Index seat verb l) (words_in (lettered (codes "1.0") c))) b.3 ∙ b.4)
 
-tail_index_goes : (seat : ℕ) (verb : _) (top : _) (l : ℕ) → GoesFrom (TailIndex seat verb top l)
-tail_index_goes seat chain.StackPut top l = (codes "1.0", line.Step (record { seat = seat; kind = kind.StackPut top (record { locale = l; index = 1; count = 0 }) }), refl)
-tail_index_goes seat chain.HomeSwap top l = (codes "1.0", line.Step (record { seat = seat; kind = kind.HomeSwap top (record { locale = l; index = 1; count = 0 }) }), refl)
+  index_joins : (l : ℕ) → MayJoin run_grammar (Index seat verb l)
+  index_joins l = let b = behind seat verb (least l) in (codes "1.0" ++ b.0, b.2, ap (λ (c : Cut). says_number run_grammar (Index seat verb l) None (lettered (codes "1.0") c)) b.3 ∙ b.4)
 
-tail_uses_goes : (seat : ℕ) (verb : _) (top : _) (l i : ℕ) → GoesFrom (TailUses seat verb top l i)
-tail_uses_goes seat chain.StackPut top l i = (codes "0", line.Step (record { seat = seat; kind = kind.StackPut top (record { locale = l; index = i; count = 0 }) }), refl)
-tail_uses_goes seat chain.HomeSwap top l i = (codes "0", line.Step (record { seat = seat; kind = kind.HomeSwap top (record { locale = l; index = i; count = 0 }) }), refl)
+  uses_goes : (l i : ℕ) → GoesFrom (Uses seat verb l i)
+  uses_goes l i = let b = behind seat verb (record { locale = l; index = i; count = 0 }) in (codes "0" ++ b.0, b.2, ap (λ (c : Cut). says_words run_grammar (Uses seat verb l i) (words_in (lettered (codes "0") c))) b.3 ∙ b.4)
 
-tail_index_joins : (seat : ℕ) (verb : _) (top : _) (l : ℕ) → MayJoin run_grammar (TailIndex seat verb top l)
-tail_index_joins seat chain.StackPut top l = (codes "1.0", line.Step (record { seat = seat; kind = kind.StackPut top (record { locale = l; index = 1; count = 0 }) }), refl)
-tail_index_joins seat chain.HomeSwap top l = (codes "1.0", line.Step (record { seat = seat; kind = kind.HomeSwap top (record { locale = l; index = 1; count = 0 }) }), refl)
-
-tail_uses_joins : (seat : ℕ) (verb : _) (top : _) (l i : ℕ) → MayJoin run_grammar (TailUses seat verb top l i)
-tail_uses_joins seat chain.StackPut top l i = (codes "0", line.Step (record { seat = seat; kind = kind.StackPut top (record { locale = l; index = i; count = 0 }) }), refl)
-tail_uses_joins seat chain.HomeSwap top l i = (codes "0", line.Step (record { seat = seat; kind = kind.HomeSwap top (record { locale = l; index = i; count = 0 }) }), refl)
+  uses_joins : (l i : ℕ) → MayJoin run_grammar (Uses seat verb l i)
+  uses_joins l i = let b = behind seat verb (record { locale = l; index = i; count = 0 }) in (codes "0" ++ b.0, b.2, ap (λ (c : Cut). says_number run_grammar (Uses seat verb l i) None (lettered (codes "0") c)) b.3 ∙ b.4)
 
 locale_goes : (seat : ℕ) (verb : _) → GoesFrom (Locale seat verb)
-locale_goes seat locale.Register = (codes "0 0", line.Step (record { seat = seat; kind = kind.Register 0 0 }), refl)
-locale_goes seat locale.TakeLook = (codes "0 0", line.Step (record { seat = seat; kind = kind.TakeLook 0 0 }), refl)
-locale_goes seat locale.TakeTry = (codes "0 0", line.Step (record { seat = seat; kind = kind.TakeTry 0 0 }), refl)
+locale_goes seat (locale.Number number.Register) = (codes "0 0", line.Step (record { seat = seat; kind = kind.Register 0 0 }), refl)
+locale_goes seat (locale.Number number.TakeLook) = (codes "0 0", line.Step (record { seat = seat; kind = kind.TakeLook 0 0 }), refl)
+locale_goes seat (locale.Number number.TakeTry) = (codes "0 0", line.Step (record { seat = seat; kind = kind.TakeTry 0 0 }), refl)
 locale_goes seat locale.StackLook = (codes "0", line.Step (record { seat = seat; kind = kind.StackLook 0 }), refl)
 locale_goes seat locale.HomeTake = (codes "0", line.Step (record { seat = seat; kind = kind.HomeTake 0 }), refl)
 
@@ -354,37 +241,12 @@ goes_on (Pointer seat verb) is = pointer_goes seat verb
 goes_on (Index seat verb locale) is = index_goes seat verb locale
 goes_on (Uses seat verb locale i) is = uses_goes seat verb locale i
 goes_on (Next seat ptr) is = (codes "0", line.Step (record { seat = seat; kind = kind.HandLink ptr 0 }), refl)
-goes_on (Tail seat verb top) is = tail_goes seat verb top
-goes_on (TailIndex seat verb top locale) is = tail_index_goes seat verb top locale
-goes_on (TailUses seat verb top locale i) is = tail_uses_goes seat verb top locale i
 goes_on (Whole said) is = ([], said, refl)
 
 joins : (spot : Spot) (bounds : Bounds) (n : ℕ) → IsSpot spot → bounds_of spot ≡ Some bounds → bounds.least ≤ n → n ≤ bounds.most → joined_of spot ≡ true → MayJoin run_grammar (after_number spot n)
-joins First bounds n is own least most joined = absurd (false≢true joined)
-joins Version bounds n is own least most joined = absurd (false≢true joined)
-joins ShapeWord bounds n is own least most joined = absurd (false≢true joined)
-joins Locales bounds n is own least most joined = absurd (false≢true joined)
-joins (Tokens locales) bounds n is own least most joined = absurd (false≢true joined)
-joins (Objects locales tokens) bounds n is own least most joined = absurd (false≢true joined)
-joins (Width locales tokens objects) bounds n is own least most joined = absurd (false≢true joined)
-joins StartWord bounds n is own least most joined = absurd (false≢true joined)
-joins Epoch bounds n is own least most joined = absurd (false≢true joined)
-joins (Count epoch) bounds n is own least most joined = absurd (false≢true joined)
-joins (Stack epoch count) bounds n is own least most joined = absurd (false≢true joined)
-joins SeatsWord bounds n is own least most joined = absurd (false≢true joined)
-joins Seats bounds n is own least most joined = absurd (false≢true joined)
-joins Seat bounds n is own least most joined = absurd (false≢true joined)
-joins (Kind seat) bounds n is own least most joined = absurd (false≢true joined)
-joins (Locale seat verb) bounds n is own least most joined = absurd (false≢true joined)
-joins (Number seat verb locale) bounds n is own least most joined = absurd (false≢true joined)
 joins (Pointer seat verb) bounds n is own least most joined = index_joins seat verb n
 joins (Index seat verb locale) bounds n is own least most joined = uses_joins seat verb locale n
-joins (Uses seat verb locale i) bounds n is own least most joined = absurd (false≢true joined)
-joins (Next seat ptr) bounds n is own least most joined = absurd (false≢true joined)
-joins (Tail seat verb top) bounds n is own least most joined = tail_index_joins seat verb top n
-joins (TailIndex seat verb top locale) bounds n is own least most joined = tail_uses_joins seat verb top locale n
-joins (TailUses seat verb top locale i) bounds n is own least most joined = absurd (false≢true joined)
-joins (Whole line) bounds n is own least most joined = absurd (false≢true joined)
+joins spot bounds n is own least most joined = absurd (false≢true joined)
 
 -- from each form some line goes on
 pub run_grammar_sound : IsGrammar run_grammar IsSpot

@@ -112,7 +112,7 @@ impl Draft<RunLine, Spot> for RunDraft {
     fn counts(&self, said: Option<RunLine>) -> bool
         ensures { result ≡ is_step said }
     {
-        matches!(said, Some(RunLine::Step { .. }))
+        matches!(said, Some(RunLine::Step(_)))
     }
 
     fn most(&self) -> u64 {
@@ -144,19 +144,19 @@ impl Draft<RunLine, Spot> for RunDraft {
         let line = next_line(self.lines)?;
         match said {
             Some(RunLine::Version) => self.stage = Stage::Shape,
-            Some(RunLine::Shape { shape }) => {
+            Some(RunLine::Shape(shape)) => {
                 self.shape = shape;
                 self.stage = Stage::Start;
             }
-            Some(RunLine::Start { start }) => {
+            Some(RunLine::Start(start)) => {
                 self.start = start;
                 self.stage = Stage::Seats;
             }
-            Some(RunLine::Seats { seats }) => {
+            Some(RunLine::Seats(seats)) => {
                 self.seats = seats;
                 self.stage = Stage::Steps;
             }
-            Some(RunLine::Step { step }) => self.steps.push(StepLine { line, step })?,
+            Some(RunLine::Step(step)) => self.steps.push(StepLine { line, step })?,
             Some(RunLine::End) | None => {}
         }
         self.lines = line;

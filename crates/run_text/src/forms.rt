@@ -1,8 +1,9 @@
 ghost use Rattle.std.specs.Prelude.{◌≡◌, ◌<◌, ◌≤◌, ◌^◌, ◌*◌};
-ghost use Rattle.run_text.specs.Forms.{IsSpot, after_kind, after_locale, after_number_of, after_pointer, after_tail, between, kind_word, objects_most, run_grammar, step_spot, width_most};
+ghost use Rattle.run_text.specs.Forms.{IsSpot, after_kind, after_locale, after_number_of, after_pointer, between, kind_word, objects_most, run_grammar, step_spot, width_most};
 ghost use Rattle.run_text.specs.Sound.{run_grammar_sound};
+ghost use Rattle.run_text.specs.declared.forms.Spot.TheVariants.{Locale, Pointer};
 
-use crate::verbs::{ChainVerb, LocaleVerb, NumberVerb, PointerVerb};
+use crate::verbs::{LocaleVerb, NumberVerb, PointerVerb};
 use epoch_core::{Kind, Step};
 use line_text::{Bounds, Form, Reject};
 use pgas_base::{Ptr, Shape, Start};
@@ -12,10 +13,10 @@ use pgas_base::{Ptr, Shape, Start};
 pub enum RunLine {
     /// The text is a run, of version 1.
     Version,
-    Shape { shape: Shape },
-    Start { start: Start },
-    Seats { seats: u32 },
-    Step { step: Step },
+    Shape(Shape),
+    Start(Start),
+    Seats(u32),
+    Step(Step),
     End,
 }
 
@@ -89,28 +90,7 @@ pub enum Spot {
         seat: u32,
         ptr: Ptr,
     },
-    /// Before the second pointer of a chain.
-    Tail {
-        seat: u32,
-        verb: ChainVerb,
-        top: Ptr,
-    },
-    TailIndex {
-        seat: u32,
-        verb: ChainVerb,
-        top: Ptr,
-        locale: u8,
-    },
-    TailUses {
-        seat: u32,
-        verb: ChainVerb,
-        top: Ptr,
-        locale: u8,
-        index: u32,
-    },
-    Whole {
-        line: RunLine,
-    },
+    Whole(RunLine),
 }
 
 const MOST_COUNT: u64 = u32::MAX as u64;
@@ -150,11 +130,21 @@ fn between(least: u64, most: u64) -> Bounds
 fn step(seat: u32, kind: Kind) -> Spot
     ensures { result ≡ step_spot seat kind }
 {
-    Spot::Whole {
-        line: RunLine::Step {
-            step: Step { seat, kind },
-        },
-    }
+    Spot::Whole(RunLine::Step(Step { seat, kind }))
+}
+
+#[inline(always)]
+fn at_locale(seat: u32, verb: LocaleVerb) -> Spot
+    ensures { result ≡ Locale seat verb }
+{
+    Spot::Locale { seat, verb }
+}
+
+#[inline(always)]
+fn at_pointer(seat: u32, verb: PointerVerb) -> Spot
+    ensures { result ≡ Pointer seat verb }
+{
+    Spot::Pointer { seat, verb }
 }
 
 /// The word of the kind of step with this number.
@@ -207,42 +197,18 @@ fn after_kind(seat: u32, index: usize) -> Spot
     ensures { result ≡ after_kind seat index }
 {
     match index {
-        0 => Spot::Locale {
-            seat,
-            verb: LocaleVerb::Register,
-        },
+        0 => at_locale(seat, LocaleVerb::Number(NumberVerb::Register)),
         1 => step(seat, Kind::Unregister),
         2 => step(seat, Kind::PinLook),
         3 => step(seat, Kind::PinSet),
         4 => step(seat, Kind::Unpin),
-        5 => Spot::Locale {
-            seat,
-            verb: LocaleVerb::TakeLook,
-        },
-        6 => Spot::Locale {
-            seat,
-            verb: LocaleVerb::TakeTry,
-        },
-        7 => Spot::Pointer {
-            seat,
-            verb: PointerVerb::Show,
-        },
-        8 => Spot::Pointer {
-            seat,
-            verb: PointerVerb::Hold,
-        },
-        9 => Spot::Pointer {
-            seat,
-            verb: PointerVerb::Touch,
-        },
-        10 => Spot::Pointer {
-            seat,
-            verb: PointerVerb::Return,
-        },
-        11 => Spot::Pointer {
-            seat,
-            verb: PointerVerb::DeferLook,
-        },
+        5 => at_locale(seat, LocaleVerb::Number(NumberVerb::TakeLook)),
+        6 => at_locale(seat, LocaleVerb::Number(NumberVerb::TakeTry)),
+        7 => at_pointer(seat, PointerVerb::Show),
+        8 => at_pointer(seat, PointerVerb::Hold),
+        9 => at_pointer(seat, PointerVerb::Touch),
+        10 => at_pointer(seat, PointerVerb::Return),
+        11 => at_pointer(seat, PointerVerb::DeferLook),
         12 => step(seat, Kind::DeferSwap),
         13 => step(seat, Kind::DeferLink),
         14 => step(seat, Kind::ElectLocal),
@@ -253,34 +219,16 @@ fn after_kind(seat: u32, index: usize) -> Spot
         19 => step(seat, Kind::Spread),
         20 => step(seat, Kind::Collect),
         21 => step(seat, Kind::Walk),
-        22 => Spot::Pointer {
-            seat,
-            verb: PointerVerb::Release,
-        },
+        22 => at_pointer(seat, PointerVerb::Release),
         23 => step(seat, Kind::Leave),
-        24 => Spot::Locale {
-            seat,
-            verb: LocaleVerb::StackLook,
-        },
+        24 => at_locale(seat, LocaleVerb::StackLook),
         25 => step(seat, Kind::StackNext),
         26 => step(seat, Kind::StackPop),
-        27 => Spot::Pointer {
-            seat,
-            verb: PointerVerb::StackPut,
-        },
-        28 => Spot::Pointer {
-            seat,
-            verb: PointerVerb::HandLink,
-        },
-        29 => Spot::Pointer {
-            seat,
-            verb: PointerVerb::HomeSwap,
-        },
+        27 => at_pointer(seat, PointerVerb::StackPut),
+        28 => at_pointer(seat, PointerVerb::HandLink),
+        29 => at_pointer(seat, PointerVerb::HomeSwap),
         30 => step(seat, Kind::HomeLink),
-        31 => Spot::Locale {
-            seat,
-            verb: LocaleVerb::HomeTake,
-        },
+        31 => at_locale(seat, LocaleVerb::HomeTake),
         _ => step(seat, Kind::HomeWalk),
     }
 }
@@ -290,14 +238,11 @@ fn after_kind(seat: u32, index: usize) -> Spot
 fn after_locale(seat: u32, verb: LocaleVerb, locale: u8) -> Spot
     ensures { result ≡ after_locale seat verb locale }
 {
-    let verb = match verb {
-        LocaleVerb::Register => NumberVerb::Register,
-        LocaleVerb::TakeLook => NumberVerb::TakeLook,
-        LocaleVerb::TakeTry => NumberVerb::TakeTry,
-        LocaleVerb::StackLook => return step(seat, Kind::StackLook { locale }),
-        LocaleVerb::HomeTake => return step(seat, Kind::HomeTake { locale }),
-    };
-    Spot::Number { seat, verb, locale }
+    match verb {
+        LocaleVerb::Number(verb) => Spot::Number { seat, verb, locale },
+        LocaleVerb::StackLook => step(seat, Kind::StackLook { locale }),
+        LocaleVerb::HomeTake => step(seat, Kind::HomeTake { locale }),
+    }
 }
 
 /// What stands behind the token or the index of a step.
@@ -322,7 +267,7 @@ fn after_number_of(seat: u32, verb: NumberVerb, locale: u8, number: u32) -> Spot
     step(seat, kind)
 }
 
-/// What stands behind the first pointer of a step.
+/// What stands behind a pointer of a step.
 #[inline(always)]
 fn after_pointer(seat: u32, verb: PointerVerb, ptr: Ptr) -> Spot
     ensures { result ≡ after_pointer seat verb ptr }
@@ -334,28 +279,11 @@ fn after_pointer(seat: u32, verb: PointerVerb, ptr: Ptr) -> Spot
         PointerVerb::Return => step(seat, Kind::Return { ptr }),
         PointerVerb::DeferLook => step(seat, Kind::DeferLook { ptr }),
         PointerVerb::Release => step(seat, Kind::Release { ptr }),
-        PointerVerb::StackPut => Spot::Tail {
-            seat,
-            verb: ChainVerb::StackPut,
-            top: ptr,
-        },
         PointerVerb::HandLink => Spot::Next { seat, ptr },
-        PointerVerb::HomeSwap => Spot::Tail {
-            seat,
-            verb: ChainVerb::HomeSwap,
-            top: ptr,
-        },
-    }
-}
-
-/// What stands behind the second pointer of a step.
-#[inline(always)]
-fn after_tail(seat: u32, verb: ChainVerb, top: Ptr, tail: Ptr) -> Spot
-    ensures { result ≡ after_tail seat verb top tail }
-{
-    match verb {
-        ChainVerb::StackPut => step(seat, Kind::StackPut { top, tail }),
-        ChainVerb::HomeSwap => step(seat, Kind::HomeSwap { top, tail }),
+        PointerVerb::StackPut => at_pointer(seat, PointerVerb::StackTail { top: ptr }),
+        PointerVerb::StackTail { top } => step(seat, Kind::StackPut { top, tail: ptr }),
+        PointerVerb::HomeSwap => at_pointer(seat, PointerVerb::HomeTail { top: ptr }),
+        PointerVerb::HomeTail { top } => step(seat, Kind::HomeSwap { top, tail: ptr }),
     }
 }
 
@@ -397,13 +325,11 @@ impl Form<RunLine> for Spot {
     fn after_word(self, index: usize) -> Self {
         match self {
             Spot::First => Spot::Version,
-            Spot::Version => Spot::Whole {
-                line: RunLine::Version,
-            },
+            Spot::Version => Spot::Whole(RunLine::Version),
             Spot::ShapeWord => Spot::Locales,
             Spot::StartWord => Spot::Epoch,
             Spot::SeatsWord => Spot::Seats,
-            Spot::Seat => Spot::Whole { line: RunLine::End },
+            Spot::Seat => Spot::Whole(RunLine::End),
             Spot::Kind { seat } => after_kind(seat, index),
             _ => self,
         }
@@ -422,14 +348,12 @@ impl Form<RunLine> for Spot {
             } => Some(between(2, width_most(locales, objects))),
             Spot::Epoch => Some(between(1, 1 << 62)),
             Spot::Stack { .. } => Some(between(0, (1 << 40) - 1)),
-            Spot::Seat
-            | Spot::Count { .. }
-            | Spot::Number { .. }
-            | Spot::Uses { .. }
-            | Spot::TailUses { .. } => Some(between(0, MOST_COUNT)),
+            Spot::Seat | Spot::Count { .. } | Spot::Number { .. } | Spot::Uses { .. } => Some(
+                between(0, MOST_COUNT),
+            ),
             Spot::Locale { .. } => Some(between(0, 255)),
-            Spot::Pointer { .. } | Spot::Tail { .. } => Some(between(0, 15)),
-            Spot::Index { .. } | Spot::TailIndex { .. } => Some(between(1, (1 << 24) - 1)),
+            Spot::Pointer { .. } => Some(between(0, 15)),
+            Spot::Index { .. } => Some(between(1, (1 << 24) - 1)),
             Spot::Next { .. } => Some(between(0, u64::MAX)),
             _ => None,
         }
@@ -454,35 +378,23 @@ impl Form<RunLine> for Spot {
                 locales,
                 tokens,
                 objects,
-            } => Spot::Whole {
-                line: RunLine::Shape {
-                    shape: Shape {
-                        locales,
-                        tokens,
-                        objects,
-                        width: number as u32,
-                    },
-                },
-            },
+            } => Spot::Whole(RunLine::Shape(Shape {
+                locales,
+                tokens,
+                objects,
+                width: number as u32,
+            })),
             Spot::Epoch => Spot::Count { epoch: number },
             Spot::Count { epoch } => Spot::Stack {
                 epoch,
                 count: number as u32,
             },
-            Spot::Stack { epoch, count } => Spot::Whole {
-                line: RunLine::Start {
-                    start: Start {
-                        epoch,
-                        count,
-                        stack: number,
-                    },
-                },
-            },
-            Spot::Seats => Spot::Whole {
-                line: RunLine::Seats {
-                    seats: number as u32,
-                },
-            },
+            Spot::Stack { epoch, count } => Spot::Whole(RunLine::Start(Start {
+                epoch,
+                count,
+                stack: number,
+            })),
+            Spot::Seats => Spot::Whole(RunLine::Seats(number as u32)),
             Spot::Seat => Spot::Kind {
                 seat: number as u32,
             },
@@ -508,31 +420,6 @@ impl Form<RunLine> for Spot {
                 index,
             } => after_pointer(seat, verb, Ptr::new(locale, index, number as u32)),
             Spot::Next { seat, ptr } => step(seat, Kind::HandLink { ptr, next: number }),
-            Spot::Tail { seat, verb, top } => Spot::TailIndex {
-                seat,
-                verb,
-                top,
-                locale: number as u8,
-            },
-            Spot::TailIndex {
-                seat,
-                verb,
-                top,
-                locale,
-            } => Spot::TailUses {
-                seat,
-                verb,
-                top,
-                locale,
-                index: number as u32,
-            },
-            Spot::TailUses {
-                seat,
-                verb,
-                top,
-                locale,
-                index,
-            } => after_tail(seat, verb, top, Ptr::new(locale, index, number as u32)),
             _ => self,
         }
     }
@@ -540,7 +427,7 @@ impl Form<RunLine> for Spot {
     #[inline(always)]
     fn says(self) -> Option<RunLine> {
         match self {
-            Spot::Whole { line } => Some(line),
+            Spot::Whole(line) => Some(line),
             _ => None,
         }
     }
@@ -552,9 +439,6 @@ impl Form<RunLine> for Spot {
 
     #[inline(always)]
     fn is_joined(self) -> bool {
-        matches!(
-            self,
-            Spot::Pointer { .. } | Spot::Index { .. } | Spot::Tail { .. } | Spot::TailIndex { .. }
-        )
+        matches!(self, Spot::Pointer { .. } | Spot::Index { .. })
     }
 }

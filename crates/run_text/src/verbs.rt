@@ -1,11 +1,10 @@
 //! The kinds of step by what stands behind their word.
+use pgas_base::Ptr;
 
 /// Kinds whose first argument is a locale.
 #[derive(Clone, Copy, Debug, PartialEq, Eq)]
 pub enum LocaleVerb {
-    Register,
-    TakeLook,
-    TakeTry,
+    Number(NumberVerb),
     StackLook,
     HomeTake,
 }
@@ -18,7 +17,7 @@ pub enum NumberVerb {
     TakeTry,
 }
 
-/// Kinds whose first argument is a pointer.
+/// Kinds whose next argument is a pointer.
 #[derive(Clone, Copy, Debug, PartialEq, Eq)]
 pub enum PointerVerb {
     Show,
@@ -27,14 +26,10 @@ pub enum PointerVerb {
     Return,
     DeferLook,
     Release,
-    StackPut,
     HandLink,
-    HomeSwap,
-}
-
-/// Kinds with two pointers.
-#[derive(Clone, Copy, Debug, PartialEq, Eq)]
-pub enum ChainVerb {
     StackPut,
+    /// Behind the first pointer.
+    StackTail { top: Ptr },
     HomeSwap,
+    HomeTail { top: Ptr },
 }

@@ -37,12 +37,3 @@ overflow_cast-result-in-Index c = let fits = c.requires.bounds (between 1 (2 ^ 2
 
 pub overflow_cast-number-in-Uses : goal.overflow_cast-number-in-Uses
 overflow_cast-number-in-Uses c = let fits = c.requires.bounds (between 0 (2 ^ 32 - 1)) (ap bounds_of c.in-Uses.is) in omega (arith, fits.1)
-
-pub overflow_cast-result-in-Tail : goal.overflow_cast-result-in-Tail
-overflow_cast-result-in-Tail c = let fits = c.requires.bounds (between 0 15) (ap bounds_of c.in-Tail.is) in omega (arith, fits.1)
-
-pub overflow_cast-result-in-TailIndex : goal.overflow_cast-result-in-TailIndex
-overflow_cast-result-in-TailIndex c = let fits = c.requires.bounds (between 1 (2 ^ 24 - 1)) (ap bounds_of c.in-TailIndex.is) in omega (arith, fits.1)
-
-pub overflow_cast-number-in-TailUses : goal.overflow_cast-number-in-TailUses
-overflow_cast-number-in-TailUses c = let fits = c.requires.bounds (between 0 (2 ^ 32 - 1)) (ap bounds_of c.in-TailUses.is) in omega (arith, fits.1)
