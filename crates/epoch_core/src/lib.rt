@@ -20,8 +20,6 @@ mod releases;
 mod seats;
 mod stacks;
 mod takes;
-#[cfg(test)]
-mod tests;
 mod tokens;
 mod ways;
 mod words;

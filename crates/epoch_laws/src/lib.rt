@@ -18,6 +18,3 @@ pub use laws::{
 };
 pub use steps::{Illegal, Kind, Seen, Step};
 pub use tokens::Token;
-
-#[cfg(test)]
-mod tests;

@@ -43,6 +43,3 @@ pub use kinds::{Choice, Chosen};
 pub use parts::{Known, Name, Part, Plan, Seated};
 pub use tables::Manages;
 pub use words::{CallOf, ReplyOf, TableNote, TablePass, TableSeat, Words};
-
-#[cfg(test)]
-mod tests;

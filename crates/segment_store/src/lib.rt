@@ -8,7 +8,4 @@
 
 mod blocks;
 mod segments;
-#[cfg(test)]
-mod tests;
-
 pub use segments::Segment;

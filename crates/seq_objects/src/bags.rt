@@ -74,26 +74,3 @@ impl PlainBag {
         self.items.as_slice()
     }
 }
-
-#[cfg(test)]
-mod tests {
-    use super::*;
-    use std::test::Fail;
-
-    #[test]
-    fn takes_the_newest_item(rt: HostRuntime) -> Result<(), Fail> {
-        let mut bag = PlainBag::open(rt.alloc());
-        let rows = [
-            (BagCall::Remove, BagReply::Empty),
-            (BagCall::Add { item: 5 }, BagReply::Added),
-            (BagCall::Add { item: 6 }, BagReply::Added),
-            (BagCall::Add { item: 7 }, BagReply::Added),
-            (BagCall::Remove, BagReply::Took { item: 7 }),
-        ];
-        for (call, want) in rows {
-            assert_eq!(rt; bag.act(call)?, want, "{call:?}");
-        }
-        assert_eq!(rt; bag.items(), [5, 6].as_slice());
-        Ok(())
-    }
-}

@@ -47,19 +47,3 @@ impl Object for PlainDeque {
 
     ghost step = { DequeSteps };
 }
-
-#[cfg(test)]
-mod tests {
-    use super::*;
-    use pass_book::{entry_added, list_is_sublist, note_taken, shorter_begins_longer};
-
-    #[test]
-    fn the_laws_of_histories_hold_of_each_object() {
-        entry_added::<PlainList>();
-        entry_added::<PlainBag>();
-        entry_added::<PlainDeque>();
-        note_taken::<PlainDeque>();
-        shorter_begins_longer::<PlainDeque>();
-        list_is_sublist::<PlainDeque>();
-    }
-}

@@ -31,6 +31,3 @@ pub use closing::{BagBack, ClosedBag};
 pub use faults::{AddFault, BagFault, Busy};
 pub use layout::Word;
 pub use shapes::Shape;
-
-#[cfg(test)]
-mod tests;

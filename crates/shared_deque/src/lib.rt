@@ -29,6 +29,3 @@ pub use closing::{ClosedDeque, DequeBack};
 pub use deques::{Deque, DequeNote, DequePass};
 pub use faults::{BusyAt, DequeFault, Full, PushFault};
 pub use layout::Word;
-
-#[cfg(test)]
-mod tests;

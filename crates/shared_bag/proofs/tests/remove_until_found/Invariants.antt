@@ -1,7 +1,0 @@
-use Rattle.std.proofs.Common.{◌≡◌}
-use Rattle.pass_table.specs.Passes.{pass_opening}
-use Rattle.shared_bag.specs.Bags.{opening_of}
-use Rattle.shared_bag.proofs.tests.remove_until_found.Given as goal
-
-abbrev pub invariant-loop : goal.invariant-loop
-invariant-loop g l = pass_opening l.pass ≡ opening_of l.bag
