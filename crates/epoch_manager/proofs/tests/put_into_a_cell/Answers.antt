@@ -7,5 +7,5 @@ use Rattle.epoch_manager.proofs.tests.put_into_a_cell.Goals as goal
 
 pub switch-requires-clause-allowed : goal.switch-requires-clause-allowed
 switch-requires-clause-allowed c =
-    let may = shown_may_be_put _ _ c.args.ptr 0 c.word-word.result c.show.ensures.knows c.word-word.ensures.value in
+    let may = shown_may_be_put (knows c.args.pass.now) _ c.args.ptr 0 c.word-word.result c.show.ensures.knows c.word-word.ensures.value in
     subst (λ a. MayDo (knows c.show.new.pass) (Steps a (Switches c.word-word.result))) (sym c.first_cell.ensures) may
