@@ -1,14 +1,9 @@
 //! What is timed, and what comes of it.
+ghost use Rattle.std.specs.Prelude.{◌<◌};
 
 use std::time::Duration;
 
-#[derive(Clone, Copy)]
-pub enum Object {
-    Deque,
-    Bag,
-}
-
-/// Which calls are made.
+/// Which calls of a deque or a bag are made.
 #[derive(Clone, Copy)]
 pub enum Form {
     /// The forms that wait for nobody. A busy call is not repeated.
@@ -16,48 +11,79 @@ pub enum Form {
     Wait,
 }
 
+/// What is done with the one cell of a manager that all threads share.
+#[derive(Clone, Copy)]
+pub enum Turn {
+    /// A pin, a hold of what the cell names, a read of a word of it, and an unpin.
+    Read,
+    /// Another object is taken, filled, shown and switched into the cell, and the old one is deferred, with a reclaim
+    /// now and then.
+    Replace,
+}
+
+/// What is timed: pairs of calls, or turns.
+#[derive(Clone, Copy)]
+pub enum Work {
+    Deque(Form),
+    Bag(Form),
+    Epochs(Turn),
+}
+
+impl Work {
+    fn from_words(object: &str, form: &str) -> Option<Work> {
+        match (object, form) {
+            ("deque", "try") => Some(Work::Deque(Form::Try)),
+            ("deque", "wait") => Some(Work::Deque(Form::Wait)),
+            ("bag", "try") => Some(Work::Bag(Form::Try)),
+            ("bag", "wait") => Some(Work::Bag(Form::Wait)),
+            ("epochs", "read") => Some(Work::Epochs(Turn::Read)),
+            ("epochs", "replace") => Some(Work::Epochs(Turn::Replace)),
+            _ => None,
+        }
+    }
+
+    /// How many calls a pair has. A turn is timed whole.
+    fn calls(self) -> u64 {
+        match self {
+            Work::Deque(_) | Work::Bag(_) => 2,
+            Work::Epochs(_) => 1,
+        }
+    }
+}
+
 /// The words of the program.
 #[derive(Clone, Copy)]
 pub struct Order {
-    pub object: Object,
-    pub form: Form,
-    /// From 1 to 16, of which each has a caller, and in the bag a locale.
+    pub work: Work,
+    /// From 1 to 16, of which each has a caller, and in the bag and the manager a locale.
     pub threads: u8,
-    /// How many pairs of calls each thread makes, from 1.
-    pub pairs: u32,
+    /// How many pairs of calls, or turns, each thread makes, from 1.
+    pub times: u32,
+    ghost some_thread: { 0 < threads },
 }
 
 impl Order {
     /// `None` where the words are no order.
     pub fn from_words(words: &[String]) -> Option<Order> {
-        let [object, form, threads, pairs] = words else {
+        let [object, form, threads, times] = words else {
             return None;
         };
-        let object = match object.as_str() {
-            "deque" => Object::Deque,
-            "bag" => Object::Bag,
-            _ => return None,
-        };
-        let form = match form.as_str() {
-            "try" => Form::Try,
-            "wait" => Form::Wait,
-            _ => return None,
-        };
+        let work = Work::from_words(object.as_str(), form.as_str())?;
         let threads = threads.as_str().parse::<u8>().ok()?;
-        let pairs = pairs.as_str().parse::<u32>().ok()?;
-        if threads < 1 || threads > 16 || pairs < 1 {
+        let times = times.as_str().parse::<u32>().ok()?;
+        if threads < 1 || threads > 16 || times < 1 {
             return None;
         }
         Some(Order {
-            object,
-            form,
+            work,
             threads,
-            pairs,
+            times,
         })
     }
 }
 
-/// How many calls put an item in, and how many took one out.
+/// How many calls put an item in, and how many took one out. Of a manager: how many turns there were, and how many found
+/// an object in the cell.
 #[derive(Clone, Copy)]
 pub struct Tally {
     pub put: u64,
@@ -93,9 +119,14 @@ pub struct Timed {
 }
 
 impl Timed {
-    /// Tenths of a nanosecond for each call of one thread, which makes two for each pair.
-    pub fn tenths(self, pairs: u32) -> u64 {
+    /// Tenths of a nanosecond for each call, or turn, of one thread.
+    pub fn tenths(self, order: Order) -> u64 {
         let nanos = u64::try_from(self.time.as_nanos()).unwrap_or(u64::MAX);
-        nanos.saturating_mul(10) / (2 * u64::from(pairs)).max(1)
+        nanos.saturating_mul(10)
+            / order
+                .work
+                .calls()
+                .saturating_mul(u64::from(order.times))
+                .max(1)
     }
 }

@@ -33,3 +33,4 @@ pub mod Rounds
 pub mod TakeCalls
 pub mod Openings
 pub mod Closings
+pub mod CellCalls

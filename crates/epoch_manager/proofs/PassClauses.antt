@@ -14,7 +14,7 @@ use Rattle.epoch_laws.specs.declared.events.Item.TheVariants.{Event}
 use Rattle.epoch_laws.specs.declared.events.EpochEvent.TheVariants.{Unregistered, Pinned as PinnedEvent, Unpinned, Deferred}
 use Rattle.epoch_laws.specs.declared.steps.Kind.TheVariants.{Unregister, Unpin}
 use Rattle.epoch_laws.specs.Needs.{event}
-use Rattle.epoch_laws.specs.Places.{same_token}
+use Rattle.epoch_laws.specs.Places.{Place, same_token}
 use Rattle.epoch_laws.specs.Seats.{Seat, Phase as SeatPhase, Idle as IsIdle, Registered as IsRegistered, Pinned as IsPinned}
 use Rattle.epoch_laws.specs.Timing.{IsToken}
 use Rattle.epoch_laws.specs.Words.{WordName, local_epoch}
@@ -54,6 +54,11 @@ registered_so p is = absurd (false≢true is)
 pinned_so : (p : SeatPhase) → is_pinned p ≡ true → p ≡ IsPinned
 pinned_so IsPinned is = refl
 pinned_so p is = absurd (false≢true is)
+
+-- only a pinned pass holds objects
+pub none_held : (phase : Phase) (t : Token) (held : List Place) → phase ≡ Registered t → may_hold phase held ≡ true → held ≡ []
+none_held phase t [] is may = refl
+none_held phase t (p ∷ held) is may = absurd (false≢true (subst (λ (f : Phase). may_hold f (p ∷ held) ≡ true) is may))
 
 token_so : (t u : Token) → same_token t u ≡ true → t ≡ u
 token_so t u is = ⊎_elim (λ h. h.1) (λ h. absurd (false≢true (sym h.0 ∙ is))) (same_token_tells t u)

@@ -83,8 +83,8 @@ returns n shape x c q row rule may own at =
 
 pub deferrals : KeptByDeferrals cells_terms
 deferrals n shape x c q rule may =
-    let names : Names x.things rule.apart.at (CutBy c) (word_of q) = All-contains (Names x.things rule.apart.at (CutBy c)) (x.views c).cut (word_of q) (rule.apart.cut c) may.1 in
-    let same : names.pointer ≡ q = one_to_one names.pointer q names.is_pointer may.0 (sym names.named) in (
+    let names : Names x.things rule.apart.at (CutBy c) (word_of q) = All-contains (Names x.things rule.apart.at (CutBy c)) (x.views c).cut (word_of q) (rule.apart.cut c) may.among in
+    let same : names.pointer ≡ q = one_to_one names.pointer q names.is_pointer may.is_pointer (sym names.named) in (
       names.row,
       subst (λ (r : Pointer). x.things (place_of r) ≡ thing r Live names.row) same names.live,
       record {
@@ -92,7 +92,7 @@ deferrals n shape x c q rule may =
         leaves = rule.leaves;
         many = rule.many;
         stand = rule.stand;
-        apart = deferred_apart n x.words x.views x.things rule.apart c q names.row may.0 may.1;
+        apart = deferred_apart n x.words x.views x.things rule.apart c q names.row may.is_pointer may.among;
       },
     )
 

@@ -14,13 +14,18 @@ use Rattle.epoch_manager.specs.PlainCells.{CellsOpen, CellsStep}
 abbrev pub but : ℕ → List ℕ → List ℕ
 but word words = filter (λ w. not (w == word)) words
 
+-- the pass has cut this object out of its cell, and not deferred it
+pub record IsCut (view : CellsView) (q : Pointer) : Type 0 where
+  pub is_pointer : IsPointer q
+  pub among : Contains view.cut (word_of q)
+
 -- Of what needs leave, a pass may fill and show what it owns, look at rows, switch a cell to empty or to what it has shown and nobody has put into a cell, and
 -- defer what it has cut
 abbrev pub MayDo : CellsView → Action → Type 0
 MayDo view (Takes q) = Unit {0}
 MayDo view (Shows q) = IsPointer q
 MayDo view (Returns q) = Unit {0}
-MayDo view (Defers q) = IsPointer q × Contains view.cut (word_of q)
+MayDo view (Defers q) = IsCut view q
 MayDo view (Frees q) = Unit {0}
 MayDo view (Fills q at value) = Unit {0}
 MayDo view (Holds spot) = Unit {0}
@@ -28,11 +33,15 @@ MayDo view (Steps (OwnSpot word) (Switches value)) = (value ≡ 0) ⊎ Contains 
 MayDo view (Steps (RowSpot q at) Looks) = Unit {0}
 MayDo view (Steps spot change) = ⊥
 
+-- what a pass knows once it has switched a cell to this value, where it found this number
+abbrev pub after_switch : CellsView → ℕ → ℕ → CellsView
+after_switch view value found = record { shown = but value view.shown; cut = if found == 0 then view.cut else view.cut ++ found ∷ [] }
+
 -- what a pass knows once it has done so, where the step found this number
 abbrev pub knows_after : CellsView → Action → ℕ → CellsView
 knows_after view (Shows q) found = record view { shown = view.shown ++ word_of q ∷ [] }
 knows_after view (Defers q) found = record view { cut = but (word_of q) view.cut }
-knows_after view (Steps (OwnSpot word) (Switches value)) found = record { shown = but value view.shown; cut = if found == 0 then view.cut else view.cut ++ found ∷ [] }
+knows_after view (Steps (OwnSpot word) (Switches value)) found = after_switch view value found
 knows_after view action found = view
 
 -- a hold is a look at its cell, and a switch puts its word there

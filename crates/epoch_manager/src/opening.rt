@@ -1,8 +1,9 @@
 //! How a manager is opened.
-ghost use Rattle.std.specs.Prelude.{◌≡◌, ◌↔◌, ◌<◌, ◌≤◌, IfOk, IsErrOf, IsOk, All, true, false, map};
+ghost use Rattle.std.specs.Prelude.{◌≡◌, ◌↔◌, ◌<◌, ◌≤◌, ◌+◌, ◌++◌, ◌∷◌, [], length, IfOk, IsErrOf, IsOk, All, true, false, map};
 ghost use Rattle.pgas_base.specs.Shapes.{IsShape};
 ghost use Rattle.pgas_base.specs.Starts.{IsStart};
-ghost use Rattle.epoch_manager.specs.Opened.{Breaks, IsIn, IsNew, IsIdlePass, IsOpenedWith};
+ghost use Rattle.epoch_manager.specs.Managers.{opening_of, pass_opening};
+ghost use Rattle.epoch_manager.specs.Opened.{Breaks, IsIn, IsNew, IsIdlePass, AreOfOpening, IsOpenedWith};
 
 use crate::faults::OpenFault;
 use crate::managers::{ClientPass, Manager, Pass};
@@ -122,5 +123,23 @@ impl<C: Client> Manager<C> {
             alloc,
         };
         Ok((manager, passes))
+    }
+
+    /// Takes the last pass out of the list, so that its caller can have it apart from the others, as in a thread of its
+    /// own. `close` wants all of them in one list again, in any order.
+    pub fn take_pass(&self, passes: &mut Vec<Pass<C>>) -> Pass<C>
+        requires opening { AreOfOpening C.terms self.now passes.old.items }
+        requires some { 0 < length passes.old.items }
+        ensures taken { passes.old.items ≡ passes.new.items ++ result ∷ [] }
+        ensures pass { pass_opening result ≡ opening_of self.now }
+        ensures rest { AreOfOpening C.terms self.now passes.new.items }
+        ensures count { length passes.new.items + 1 ≡ length passes.old.items }
+        ensures idle { All IsIdlePass passes.old.items → IsIdlePass result }
+        ensures rest_idle { All IsIdlePass passes.old.items → All IsIdlePass passes.new.items }
+    {
+        let Some(pass) = passes.pop() else {
+            unreachable!()
+        };
+        pass
     }
 }

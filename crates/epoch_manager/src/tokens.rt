@@ -99,6 +99,7 @@ impl<C: Client> Manager<C> {
         requires phase { (token : Token) × (phase_of pass.old ≡ Phase.Registered token) }
         ensures pass { IsSamePass pass.old pass.new }
         ensures same { HasTheSame pass.old pass.new }
+        ensures none_held { held_by pass.new ≡ [] }
         ensures phase { (token : Token) → phase_of pass.old ≡ Phase.Registered token → phase_of pass.new ≡ Phase.Pinned token }
         ensures history { (token : Token) → phase_of pass.old ≡ Phase.Registered token → Pins C.terms C.Object.opens C.Object.step (plan_of self.now) (change pass.old pass.new) token }
         ensures grows { IsPrefix (page pass.old).seen (page pass.new).seen }

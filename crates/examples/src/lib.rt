@@ -2,6 +2,7 @@
 #![tactic(auto)]
 
 mod bags;
+mod cells;
 mod deques;
 mod graphs;
 mod histories;
@@ -16,6 +17,7 @@ mod scripts;
 mod threads;
 
 pub use bags::add_numbers;
+pub use cells::read_while_replaced;
 pub use deques::push_numbers;
 pub use graphs::neighbours;
 pub use histories::has_pushed;

@@ -44,6 +44,13 @@ fn items_go_from_caller_to_caller(rt: HostRuntime) -> Result<(), Fail> {
 }
 
 #[test]
+fn a_row_is_whole_while_another_takes_its_place(rt: HostRuntime) -> Result<(), Fail> {
+    let (whole, words) = read_while_replaced(&rt, rt.alloc(), 1000)?;
+    assert_eq!(rt; (whole, words.len()), (true, 128));
+    Ok(())
+}
+
+#[test]
 fn a_keeper_is_kept(rt: HostRuntime) -> Result<(), Fail> {
     let (deque, mut passes) = Deque::open(rt.alloc(), 1, 4, 1, Even)?;
     let [pass] = passes.as_mut_slice() else {

@@ -3,7 +3,7 @@ use Rattle.epoch_manager.specs.Tokens.{Pins}
 use Rattle.epoch_laws.specs.Words.{local_epoch}
 use Rattle.pass_table.specs.Passes.{me_of}
 use Rattle.epoch_manager.specs.Managers.{pointers, plan_of}
-use Rattle.epoch_manager.proofs.PassClauses.{stands_registered, inside_so, pin_done, done_listed, done_read, done_begins, done_fits, same_registered, Changed}
+use Rattle.epoch_manager.proofs.PassClauses.{stands_registered, inside_so, pin_done, done_listed, done_read, done_begins, done_fits, none_held, same_registered, Changed}
 use Rattle.epoch_manager.proofs.HoldClauses.{numbers_stay}
 use Rattle.epoch_manager.proofs.managers.Manager.pin.Goals as goal
 
@@ -88,6 +88,22 @@ returns-clause-same g c =
     let n = me_of c.pin_seat.new.seat in
     let d = pin_done K o s p m n phase fits t c.pin_seat.result is c.pin_seat.ensures.pins in
     (ap (λ x. pointers x.facts x.seat.owned) d.goes.1, ap (λ x. pointers x.facts x.seat.held) d.goes.1, ap (λ x. x.client) d.goes.1)
+
+pub returns-clause-none_held : goal.returns-clause-none_held
+returns-clause-none_held g c =
+    let K = g.C.Client.terms in
+    let o = g.C.Object.Object.opens in
+    let s = g.C.Object.Object.step in
+    let p = plan_of c.args.self.now in
+    let m = me_of c.args.pass.now.pass.seat in
+    let phase = c.args.pass.now.phase in
+    let fits = c.args.pass.now.fits p (ap (λ x. x.plan) c.requires.opening) in
+    let is = c.in-Registered.is in
+    let t = c.in-Registered.token in
+    let n = me_of c.pin_seat.new.seat in
+    let d = pin_done K o s p m n phase fits t c.pin_seat.result is c.pin_seat.ensures.pins in
+    let none = none_held phase t m.0.part.seat.held is fits.kept.pinned in
+    ap (λ x. pointers x.facts x.seat.held) d.goes.1 ∙ ap (λ l. pointers m.0.part.facts l) none
 
 pub returns-clause-grows : goal.returns-clause-grows
 returns-clause-grows g c =

@@ -1,0 +1,8 @@
+use Rattle.std.proofs.Common.{◌≡◌}
+use Rattle.epoch_laws.specs.declared.tokens.Token.{Token}
+use Rattle.epoch_manager.specs.declared.phases.Phase.TheVariants.{Registered}
+use Rattle.epoch_manager.specs.Managers.{pass_opening, phase_of}
+use Rattle.bench_objects.proofs.epoch_turns.Rows.read_often.Given as goal
+
+abbrev pub invariant-loop : goal.invariant-loop
+invariant-loop l = (pass_opening l.pass ≡ pass_opening l.fn.pass) × ((token : Token) × (phase_of l.pass ≡ Registered token))

@@ -1,0 +1,8 @@
+use Rattle.std.proofs.Common.{◌≡◌}
+use Rattle.epoch_laws.specs.declared.tokens.Token.{Token}
+use Rattle.epoch_manager.specs.declared.phases.Phase.TheVariants.{Registered}
+use Rattle.epoch_manager.specs.Managers.{phase_of, IsSamePass}
+use Rattle.examples.proofs.cells.Rows.stays_whole.Given as goal
+
+abbrev pub invariant-loop : goal.invariant-loop
+invariant-loop l = IsSamePass l.fn.pass l.pass × ((token : Token) × (phase_of l.pass ≡ Registered token))
