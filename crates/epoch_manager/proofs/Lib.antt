@@ -9,6 +9,9 @@ pub mod ScanSteps
 pub mod GlobalSteps
 pub mod LocalSteps
 pub mod AdvanceSteps
+pub mod ChainHomes
+pub mod Gatherings
+pub mod GatherSteps
 pub mod AloneHome
 pub mod ReleaseSteps
 pub mod ReleaseLists
@@ -24,6 +27,7 @@ pub mod TakeRows
 pub mod Takes
 pub mod StackTakes
 pub mod HeaderTakes
+pub mod HomeChains
 pub mod HandChains
 pub mod HomeWalks
 pub mod HandHomes

@@ -1,5 +1,5 @@
 -- What the release of a list comes to.
-use Rattle.std.proofs.Common.{◌≡◌, ◌≢◌, ◌<◌, ◌≤◌, ◌+◌, ◌*◌, ◌++◌, ℕ, true, List, [], ◌∷◌, length, refl, ap, sym, ◌∙◌, subst, arith, inl, inr, ⊎_elim, length-append, append-nil}
+use Rattle.std.proofs.Common.{◌≡◌, ◌≢◌, ◌<◌, ◌≤◌, ◌+◌, ◌*◌, ◌++◌, ℕ, true, List, [], ◌∷◌, length, Option, refl, ap, sym, ◌∙◌, subst, arith, inl, inr, ⊎_elim, length-append, append-nil}
 use Rattle.std.proofs.Math.Nat.{mul-le-mul_right}
 use Rattle.std.proofs.lemmas.List.{map-append}
 use Rattle.std.proofs.lemmas.List.Sums.{fold-append}
@@ -20,6 +20,8 @@ use Rattle.epoch_table.specs.Clients.{ClientTerms, Frees}
 use Rattle.epoch_table.specs.Deeds.{deed}
 use Rattle.epoch_table.specs.Kinds.{entries_of_items, looks_of, MayMake, Makes}
 use Rattle.epoch_table.specs.Released.{released_by}
+use Rattle.epoch_manager.specs.declared.homes.HomeChain.{HomeChain}
+use Rattle.epoch_manager.specs.Gathering.{GathersOn}
 use Rattle.epoch_manager.specs.TakeSeats.{Has}
 use Rattle.epoch_manager.specs.Releasing.{IsWalking, IsReleasing, IsKeptBy, freed_items, frees_after, Lists, HasFreed, ReleasesOne, ReleasesList, released_of}
 use Rattle.epoch_manager.proofs.Crowds.{no_more}
@@ -67,7 +69,31 @@ module _ {C View' Call Reply State' : Type 0} (K : ClientTerms C View' Call Repl
   pub number_on : (m n : Seated K opens step plan) (items : List Item) (pointers : List Pointer) → Lists K opens step plan m n items pointers → n.0.number ≡ m.0.number
   number_on m n items pointers lists = lists.goes.0.same.number
 
-  module _ (m : Seated K opens step plan) (epoch at freed : ℕ) (releasing : IsReleasing plan.shape.locales epoch at 0 m.0.part) (low : at < plan.shape.locales) (below : m.0.number < plan.callers) where
+  -- steps and then what is gathered
+  pub lists_gathered : (m k n : Seated K opens step plan) (items : List Item) (pointers : List Pointer) (chains : ℕ → Option HomeChain) → Lists K opens step plan m k items pointers → GathersOn K opens step plan chains k n → Lists K opens step plan m n items pointers
+  lists_gathered m k n items pointers chains first on =
+      ⊎_elim
+      (λ t. subst (λ (x : Seated K opens step plan). Lists K opens step plan m x items pointers) (sym t.0) first)
+      (λ t.
+      let same = on.under.same in
+      let entries = entries_of_items m.0.number items in
+      let both = then_among K opens step plan m k n first.looks on.looks entries [] k.0.part n.0.part first.goes (as_among K opens step plan k n on.looks [] n.0.part t) in
+      record {
+        looks = first.looks ++ on.looks;
+        goes = subst (λ l. Among K opens step plan m n (first.looks ++ on.looks) l n.0.part) (append-nil entries) both;
+        kept = kept_then m.0.part k.0.part n.0.part first.kept (record { token = same.token; owned = same.owned; held = same.held; chain = on.chain; won = on.won; counts = same.counts });
+        client = same.client ∙ first.client;
+      })
+      on.under.so
+
+  pub released_gathered : (k n : Seated K opens step plan) (chains : ℕ → Option HomeChain) → GathersOn K opens step plan chains k n → released_of K opens step plan n ≡ released_of K opens step plan k
+  released_gathered k n chains on =
+      ⊎_elim
+      (λ t. ap (released_of K opens step plan) t.0)
+      (λ t. ap (λ c. released_by c n.0.mine) t.0.same.number ∙ ap (released_by k.0.number) (t.0.mine ∙ append-nil k.0.mine))
+      on.under.so
+
+  module _ (m : Seated K opens step plan) (epoch at freed : ℕ) (chains : ℕ → Option HomeChain) (releasing : IsReleasing plan.shape epoch at 0 chains m.0.part) (low : at < plan.shape.locales) (below : m.0.number < plan.callers) where
     pub may_collect : MayMake K plan m.0.number Collect m.0.part
     may_collect =
         let lists = releasing.collected in
@@ -89,7 +115,7 @@ module _ {C View' Call Reply State' : Type 0} (K : ClientTerms C View' Call Repl
       still_freed : released_of K opens step plan j ≡ released_of K opens step plan m
       still_freed = ap (λ c. released_by c j.0.mine) collected_so.0.same.number ∙ ap (released_by m.0.number) (collected_so.0.mine ∙ append-nil m.0.mine)
 
-      pub collects_so : ReleasesList K opens step plan epoch at freed word freed m j
+      pub collects_so : ReleasesList K opens step plan epoch at freed word freed chains m j
       collects_so =
           let is = collected_so.1 in
           record {
@@ -100,9 +126,9 @@ module _ {C View' Call Reply State' : Type 0} (K : ClientTerms C View' Call Repl
               kept = subst (IsKeptBy m.0.part) (sym is) (record { token = refl; owned = refl; held = refl; chain = refl; won = refl; counts = λ p h. refl });
               client = ap (λ (p : Part View'). p.client) is;
             };
-            releasing = subst (IsReleasing plan.shape.locales epoch (at + 1) word) (sym is)
+            releasing = subst (IsReleasing plan.shape epoch (at + 1) word chains) (sym is)
                 (record {
-                  walking = record { phase = releasing.walking.phase; walked = releasing.walking.walked; hand = releasing.walking.hand; tail = releasing.walking.tail };
+                  walking = record { phase = releasing.walking.phase; walked = releasing.walking.walked; gathers = releasing.walking.gathers; tail = releasing.walking.tail };
                   read = releasing.read;
                   spread = releasing.spread;
                   collected = ap (λ k. k + 1) releasing.collected;
@@ -115,8 +141,8 @@ module _ {C View' Call Reply State' : Type 0} (K : ClientTerms C View' Call Repl
 
   -- ---- an object more
 
-  module _ (m j : Seated K opens step plan) (epoch at freed word total : ℕ) (so : ReleasesList K opens step plan epoch at freed word total m j) where
-    pub walking_on : IsWalking j.0.part
+  module _ (m j : Seated K opens step plan) (epoch at freed word total : ℕ) (chains : ℕ → Option HomeChain) (so : ReleasesList K opens step plan epoch at freed word total chains m j) where
+    pub walking_on : IsWalking plan.shape chains j.0.part
     walking_on = so.releasing.walking
 
     pub below_on : m.0.number < plan.callers → j.0.number < plan.callers
@@ -132,28 +158,28 @@ module _ {C View' Call Reply State' : Type 0} (K : ClientTerms C View' Call Repl
       pub chain_on : j.0.part.seat.reclaim.chain ≡ word_of q
       chain_on = so.releasing.chain ∙ sym same
 
-      module _ (next : ℕ) (n : Seated K opens step plan) (one : ReleasesOne K opens step plan q next j n) where
+      module _ (next : ℕ) (n : Seated K opens step plan) (now : ℕ → Option HomeChain) (one : ReleasesOne K opens step plan q next now j n) where
         inside_all : (p : Place) → is_among p (released_of K opens step plan n) ≡ true → IsPlace plan.shape p
         inside_all p h =
             ⊎_elim
             (λ e. subst (IsPlace plan.shape) (sym e) inside_on)
             (λ e. so.has.inside p e.1)
-            (among_cons p (place_of q) (released_of K opens step plan j) (subst (λ l. is_among p l ≡ true) one.released h))
+            (among_cons p (place_of q) (released_of K opens step plan j) (subst (λ l. is_among p l ≡ true) one.frees.released h))
 
         many_now : length (released_of K opens step plan n) ≡ total + 1
-        many_now = let many = so.has.many in let more = ap length one.released in omega arith
+        many_now = let many = so.has.many in let more = ap length one.frees.released in omega arith
 
         pub low_now : total + 1 ≤ plan.shape.locales * plan.shape.objects
-        low_now = subst (λ k. k ≤ plan.shape.locales * plan.shape.objects) many_now (no_more plan.shape (released_of K opens step plan n) inside_all one.distinct)
+        low_now = subst (λ k. k ≤ plan.shape.locales * plan.shape.objects) many_now (no_more plan.shape (released_of K opens step plan n) inside_all one.frees.distinct)
 
-        pub one_released : ReleasesList K opens step plan epoch at freed next (total + 1) m n
+        pub one_released : ReleasesList K opens step plan epoch at freed next (total + 1) now m n
         one_released =
             let number : j.0.number ≡ m.0.number = number_on m j _ _ so.lists in
-            let on : Lists K opens step plan j n (freed_items m.0.number (q ∷ [])) (q ∷ []) = subst (λ c. Lists K opens step plan j n (freed_items c (q ∷ [])) (q ∷ [])) number one.lists in
+            let on : Lists K opens step plan j n (freed_items m.0.number (q ∷ [])) (q ∷ []) = subst (λ c. Lists K opens step plan j n (freed_items c (q ∷ [])) (q ∷ [])) number one.frees.lists in
             let all = lists_then m j n (freed_items m.0.number so.pointers) (freed_items m.0.number (q ∷ [])) so.pointers (q ∷ []) so.lists on in
             let count = so.count in
             let longer = length-append so.pointers (q ∷ []) in
-            let reclaim = one.reclaim in
+            let reclaim = one.frees.reclaim in
             record {
               pointers = so.pointers ++ q ∷ [];
               lists = subst (λ l. Lists K opens step plan m n l (so.pointers ++ q ∷ [])) (sym (freed-append m.0.number so.pointers (q ∷ []))) all;
@@ -164,7 +190,7 @@ module _ {C View' Call Reply State' : Type 0} (K : ClientTerms C View' Call Repl
                 collected = ap (λ r. r.collected) reclaim ∙ so.releasing.collected;
                 chain = ap (λ r. r.chain) reclaim;
               };
-              leads = one.leads;
+              leads = one.frees.leads;
               count = omega arith;
               has = record { many = many_now; inside = inside_all; low = low_now };
             }

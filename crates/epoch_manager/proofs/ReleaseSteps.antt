@@ -1,7 +1,7 @@
--- An object of a collected chain is walked over, released, and goes home where it became free.
-use Rattle.std.proofs.Common.{◌≡◌, ◌≢◌, ◌<◌, ◌==◌, ◌+◌, ◌++◌, ℕ, true, false, if◌then◌else◌, List, [], ◌∷◌, Some, None, refl, ap, sym, ◌∙◌, subst, arith, ⊎_elim, eq-eqb, ne_eqb}
+-- An object of a collected chain is walked over, released, and gathered where it became free.
+use Rattle.std.proofs.Common.{◌≡◌, ◌≢◌, ◌<◌, ◌==◌, ◌+◌, ◌++◌, ℕ, true, false, if◌then◌else◌, List, [], ◌∷◌, Option, Some, None, refl, ap, sym, ◌∙◌, subst, arith, ⊎_elim, eq-eqb, ne_eqb}
 use Rattle.std.specs.Prelude.{fold}
-use Rattle.std.proofs.lemmas.Bool.{cases_Bool}
+use Rattle.std.proofs.lemmas.Bool.{cases_Bool, false_from_ne_true}
 use Rattle.std.proofs.lemmas.List.Sums.{fold-append}
 use Rattle.pass_book.specs.declared.entries.Entry.{Entry}
 use Rattle.pass_book.specs.declared.entries.Look.{Look}
@@ -15,6 +15,7 @@ use Rattle.epoch_laws.specs.declared.steps.Kind.TheVariants.{Walk, Release}
 use Rattle.epoch_laws.specs.Locations.{IsDistinct}
 use Rattle.epoch_laws.specs.Places.{Place, place_of, place_in, is_among, without}
 use Rattle.epoch_laws.specs.ReclaimSteps.{last_count}
+use Rattle.epoch_laws.specs.Seats.{Advanced}
 use Rattle.epoch_laws.specs.States.{IsPlace}
 use Rattle.epoch_laws.specs.Words.{WordName, next_of}
 use Rattle.epoch_laws.proofs.Lists.{among_here, left_rest, without_one, among_none}
@@ -25,17 +26,20 @@ use Rattle.epoch_table.specs.declared.events.Happens.TheVariants.{Lists as HasLi
 use Rattle.epoch_table.specs.declared.parts.Plan.{Plan}
 use Rattle.epoch_table.specs.declared.parts.Part.{Part}
 use Rattle.epoch_table.specs.Clients.{ClientTerms, Frees}
-use Rattle.epoch_table.specs.Facts.{Facts, count_of, facts_after}
+use Rattle.epoch_table.specs.Facts.{Facts, count_of, next_word_of, facts_after}
 use Rattle.epoch_table.specs.Kinds.{entries_of_items, MayMake, Makes}
 use Rattle.epoch_table.specs.Numbers.{count_in, header_in}
 use Rattle.epoch_table.specs.Released.{released_after, released_by}
 use Rattle.epoch_table.proofs.Knowledge.{header_read}
-use Rattle.epoch_manager.specs.Returning.{HasAlone, part_homed, GoesAlone, home_words}
 use Rattle.epoch_manager.specs.TakeSeats.{Has}
-use Rattle.epoch_manager.specs.Releasing.{IsWalking, IsKeptBy, freed_items, ReleasesOne, released_of}
+use Rattle.epoch_manager.specs.declared.homes.HomeChain.{HomeChain}
+use Rattle.epoch_manager.specs.Gathering.{Gathers, HasFree, GathersOn}
+use Rattle.epoch_manager.specs.Releasing.{IsWalking, IsKeptBy, freed_items, FreesOne, ReleasesOne, released_of}
+use Rattle.epoch_manager.proofs.Gatherings.{gathers_still}
 use Rattle.epoch_manager.proofs.HandChains.{small_of}
 use Rattle.epoch_manager.proofs.HomeWalks.{count_back}
 use Rattle.epoch_manager.proofs.ReclaimSteps.{walk_row, walk_told, release_row, release_free, release_worn}
+use Rattle.epoch_manager.proofs.ReleaseLists.{released_gathered, lists_gathered}
 use Rattle.epoch_manager.proofs.TokenSteps.{Seated, Goes, Among, made_of, as_among, then_among}
 
 one_without : (p : Place) → without p (p ∷ []) ≡ []
@@ -82,7 +86,7 @@ module _ {C View' Call Reply State' : Type 0} (K : ClientTerms C View' Call Repl
   pub seen_released : (n : Seated K opens step plan) → IsPage n.0.number (page_of n.0) → released_by n.0.number n.0.seen ≡ released_of K opens step plan n
   seen_released n own = sym (ap (released_by n.0.number) own ∙ released_own n.0.number n.0.seen)
 
-  module _ (q : Pointer) (m : Seated K opens step plan) (below : m.0.number < plan.callers) (walking : IsWalking m.0.part) (is : IsPointer q) (inside : IsPlace plan.shape (place_of q)) (at : m.0.part.seat.reclaim.chain ≡ word_of q) where
+  module _ (q : Pointer) (m : Seated K opens step plan) (below : m.0.number < plan.callers) (chains : ℕ → Option HomeChain) (walking : IsWalking plan.shape chains m.0.part) (is : IsPointer q) (inside : IsPlace plan.shape (place_of q)) (at : m.0.part.seat.reclaim.chain ≡ word_of q) where
     abbrev p0 : Place
     p0 = place_in m.0.part.seat.reclaim.chain
 
@@ -133,6 +137,12 @@ module _ {C View' Call Reply State' : Type 0} (K : ClientTerms C View' Call Repl
           (λ h. absurd (cc (h, ap (λ x. is_among x m.0.part.seat.held) same, new.held)))
           has
 
+      none_in_hand : (p : Place) → is_among p m.0.part.seat.hand ≡ true → p ≢ place_of q
+      none_in_hand p h e =
+          let new = walks.0.1 in
+          let same : p ≡ p0 = e ∙ sym place_is in
+          absurd (cc (h, ap (λ x. is_among x m.0.part.seat.hand) same, new.hand))
+
       emptied : without (place_of q) (p0 ∷ m.0.part.seat.reclaim.walked) ≡ []
       emptied = ap (λ l. without (place_of q) (p0 ∷ l)) walking.walked ∙ (ap (λ x. without (place_of q) (x ∷ [])) place_is ∙ one_without (place_of q))
 
@@ -140,10 +150,22 @@ module _ {C View' Call Reply State' : Type 0} (K : ClientTerms C View' Call Repl
         abbrev freed_facts : Facts
         freed_facts = facts_after walked.seat (Release q) walked.facts (released_word q.count)
 
+        -- what is known of other objects is as it was
+        counts_apart : (p : Place) → p ≢ place_of q → count_of freed_facts p ≡ count_of m.0.part.facts p
+        counts_apart p ne = place_there _ (place_of q) _ p ne ∙ (place_there _ (place_of q) None p ne ∙ place_there (count_of m.0.part.facts) p0 _ p (λ e. ne (e ∙ place_is)))
+
+        nexts_apart : (p : Place) → p ≢ place_of q → next_word_of freed_facts p ≡ next_word_of m.0.part.facts p
+        nexts_apart p ne =
+            let other : p ≢ p0 = (λ e. ne (e ∙ place_is)) in
+            place_there (next_word_of walked.facts) (place_of q) None p ne ∙ (place_there _ p0 (Some word) p other ∙ place_there (next_word_of m.0.part.facts) p0 None p other)
+
         counts_else : (p : Place) → Has m.0.part p → count_of freed_facts p ≡ count_of m.0.part.facts p
-        counts_else p has =
-            let ne = none_has p has in
-            place_there _ (place_of q) _ p ne ∙ (place_there _ (place_of q) None p ne ∙ place_there (count_of m.0.part.facts) p0 _ p (λ e. ne (e ∙ place_is)))
+        counts_else p has = counts_apart p (none_has p has)
+
+        -- so the chains of the hand are
+        gathers_freed : Gathers plan.shape m.0.part.seat.hand freed_facts chains
+        gathers_freed =
+            gathers_still plan.shape m.0.part.seat.hand m.0.part.facts freed_facts chains walking.gathers (λ p h. counts_apart p (none_in_hand p h)) (λ p h. nexts_apart p (none_in_hand p h))
 
         abbrev worn_of : Part View' → Part View'
         worn_of p = record p {
@@ -170,35 +192,38 @@ module _ {C View' Call Reply State' : Type 0} (K : ClientTerms C View' Call Repl
             let same : b.0.number ≡ a.0.number = goes.0.same.number ∙ sym walked_so.0.same.number in
             subst IsDistinct (seen_released b goes.0.sound.own ∙ freed_then q m b look last goes) (subst (λ c. IsDistinct (released_by c b.0.seen)) (sym same) releases.3)
 
-        one_so : (n : Seated K opens step plan) (looks : List (Look WordName)) (last : Part View') → Among K opens step plan m n looks (items m.0.number) last → IsKeptBy m.0.part last → last.client ≡ K.after m.0.part.client (Frees q) 0 → IsWalking last
-            → last.seat.reclaim ≡ record m.0.part.seat.reclaim { chain = word; walked = [] } → IsDistinct (place_of q ∷ released_of K opens step plan m) → ReleasesOne K opens step plan q word m n
-        one_so n looks last goes kept client now reclaim distinct =
+        one_so : (last : Part View') → Among K opens step plan m b look (items m.0.number) last → IsKeptBy m.0.part last → last.client ≡ K.after m.0.part.client (Frees q) 0 → last.seat.phase ≡ Advanced
+            → last.seat.reclaim ≡ record m.0.part.seat.reclaim { chain = word; walked = [] } → FreesOne K opens step plan q word m b
+        one_so last goes kept client phase reclaim =
             let is_last = goes.1 in
-            let released = freed_then q m n looks last goes in
+            let released = freed_then q m b look last goes in
             record {
               lists = record {
-                looks = looks;
-                goes = subst (λ (p : Part View'). Among K opens step plan m n looks (items m.0.number) p) (sym is_last) goes;
+                looks = look;
+                goes = subst (λ (p : Part View'). Among K opens step plan m b look (items m.0.number) p) (sym is_last) goes;
                 kept = subst (IsKeptBy m.0.part) (sym is_last) kept;
                 client = ap (λ (p : Part View'). p.client) is_last ∙ client;
               };
-              walking = subst IsWalking (sym is_last) now;
+              phase = ap (λ (p : Part View'). p.seat.phase) is_last ∙ phase;
               reclaim = ap (λ (p : Part View'). p.seat.reclaim) is_last ∙ reclaim;
               leads = walks.0.0;
               released = released;
-              distinct = subst IsDistinct (sym released) distinct;
+              distinct = subst IsDistinct (sym released) (distinct_now last goes);
             }
 
         -- ---- worn
 
-        pub worn_so : q.count ≡ last_count → ReleasesOne K opens step plan q word m b
+        pub worn_so : q.count ≡ last_count → ReleasesOne K opens step plan q word chains m b
         worn_so full =
             let made = made_of K opens step plan (Release q) a b (released_word q.count) _ (release_worn plan.shape plan.callers a.0.number a.0.part.seat a.0.part.facts q (released_word q.count) full) releases in
             let last = worn_of walked in
             let goes : Goes K opens step plan a b [] (items a.0.number) last = subst (λ (p : Part View'). Goes K opens step plan a b [] (items a.0.number) (worn_of p)) walked_so.1 made in
             let whole = to_release last goes in
-            one_so b look last whole (record { token = refl; owned = refl; held = refl; chain = refl; won = refl; counts = counts_else }) refl
-            (record { phase = walking.phase; walked = emptied; hand = walking.hand; tail = walking.tail }) (ap (λ w. record m.0.part.seat.reclaim { chain = word; walked = w }) emptied) (distinct_now last whole)
+            record {
+              frees =
+                  one_so last whole (record { token = refl; owned = refl; held = refl; chain = refl; won = refl; counts = counts_else }) refl walking.phase (ap (λ w. record m.0.part.seat.reclaim { chain = word; walked = w }) emptied);
+              walking = subst (IsWalking plan.shape chains) (sym whole.1) (record { phase = walking.phase; walked = emptied; gathers = gathers_freed; tail = walking.tail });
+            }
 
         -- ---- free
 
@@ -214,10 +239,20 @@ module _ {C View' Call Reply State' : Type 0} (K : ClientTerms C View' Call Repl
           free_word : (header_in (released_word q.count)).count ≡ q.count + 1
           free_word = ap (λ x. (header_in (if x then header_word q.count Worn else header_word (q.count + 1) Free)).count) (ne_eqb q.count last_count ne) ∙ ap (λ h. h.count) (header_read (record { count = q.count + 1; state = Free }))
 
-          pub alone : HasAlone plan.shape b.0.part free
-          alone =
-              subst (λ (p : Part View'). HasAlone plan.shape p free) (sym freed_so.1)
-              (record { inside = inside; hand = ap (λ h. place_of q ∷ h) walking.hand; tail = walking.tail; count = place_here _ (place_of q) _ ∙ ap Some free_word })
+          free_pointer : IsPointer free
+          free_pointer = let low = is.count in record { locale = is.locale; some_object = is.some_object; index = is.index; count = omega arith }
+
+          pub has_free : HasFree plan.shape b.0.part free chains
+          has_free =
+              subst (λ (p : Part View'). HasFree plan.shape p free chains) (sym freed_so.1)
+              (record {
+                back = m.0.part.seat.hand;
+                hand = refl;
+                fresh = false_from_ne_true _ (λ h. none_in_hand (place_of q) h refl);
+                gathers = gathers_freed;
+                free = record { local = refl; pointer = free_pointer; inside = inside; count = place_here _ (place_of q) _ ∙ ap Some free_word };
+                none = walking.tail;
+              })
 
           pub still_below : b.0.number < plan.callers
           still_below =
@@ -225,12 +260,24 @@ module _ {C View' Call Reply State' : Type 0} (K : ClientTerms C View' Call Repl
               let second = freed_so.0.same.number in
               omega arith
 
-          pub free_so : (n : Seated K opens step plan) → GoesAlone K opens step plan free b n → ReleasesOne K opens step plan q word m n
-          free_so n home =
-              let old = home.0 in
-              let whole = to_release (freed_of walked) freed_so in
-              let last = part_homed free old (freed_of walked) in
-              let goes : Goes K opens step plan b n (home_words q.locale old) [] last = subst (λ (p : Part View'). Goes K opens step plan b n (home_words q.locale old) [] (part_homed free old p)) freed_so.1 home.1 in
-              let all = then_among K opens step plan m b n look (home_words q.locale old) (items m.0.number) [] (freed_of walked) last whole (as_among K opens step plan b n (home_words q.locale old) [] last goes) in
-              one_so n (look ++ home_words q.locale old) last all (record { token = refl; owned = refl; held = refl; chain = refl; won = refl; counts = counts_else }) refl
-              (record { phase = walking.phase; walked = emptied; hand = refl; tail = refl }) (ap (λ w. record m.0.part.seat.reclaim { chain = word; walked = w }) emptied) (distinct_now (freed_of walked) whole)
+          frees_so : FreesOne K opens step plan q word m b
+          frees_so =
+              one_so (freed_of walked) (to_release (freed_of walked) freed_so) (record { token = refl; owned = refl; held = refl; chain = refl; won = refl; counts = counts_else }) refl walking.phase
+              (ap (λ w. record m.0.part.seat.reclaim { chain = word; walked = w }) emptied)
+
+          pub free_so : (n : Seated K opens step plan) (now : ℕ → Option HomeChain) → GathersOn K opens step plan now b n → ReleasesOne K opens step plan q word now m n
+          free_so n now on =
+              let frees = frees_so in
+              let released = released_gathered K opens step plan b n now on in
+              let reclaim = on.under.same.reclaim ∙ frees.reclaim in
+              record {
+                frees = record {
+                  lists = lists_gathered K opens step plan m b n _ _ now frees.lists on;
+                  phase = on.under.same.phase ∙ frees.phase;
+                  reclaim = reclaim;
+                  leads = frees.leads;
+                  released = released ∙ frees.released;
+                  distinct = subst IsDistinct (sym released) frees.distinct;
+                };
+                walking = record { phase = on.under.same.phase ∙ frees.phase; walked = ap (λ r. r.walked) reclaim; gathers = on.gathers; tail = on.none };
+              }

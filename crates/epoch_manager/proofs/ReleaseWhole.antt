@@ -1,5 +1,6 @@
 -- What a whole reclaim comes to, from its advance to its leaves.
-use Rattle.std.proofs.Common.{◌≡◌, ◌<◌, ◌+◌, ◌*◌, ◌++◌, ℕ, true, false, if◌then◌else◌, List, [], ◌∷◌, length, Ok, None, refl, ap, sym, ◌∙◌, subst, arith, eq-eqb, length-append, append-nil}
+use Rattle.std.proofs.Common.{◌≡◌, ◌<◌, ◌+◌, ◌*◌, ◌++◌, ℕ, true, false, if◌then◌else◌, List, [], ◌∷◌, length, Option, Ok, None, refl, ap, sym, ◌∙◌, subst, arith, eq-eqb, length-append, append-nil}
+use mathlib.Core.Path.{fun_ext}
 use Rattle.std.specs.Prelude.{fold}
 use Rattle.std.proofs.lemmas.List.Sums.{fold-append}
 use Rattle.pass_book.specs.declared.entries.Entry.{Entry}
@@ -7,9 +8,10 @@ use Rattle.pass_book.specs.declared.entries.Look.{Look}
 use Rattle.epoch_laws.specs.declared.events.Item.{Item}
 use Rattle.epoch_laws.specs.declared.events.Item.TheVariants.{Advance as Advances, Claim, Leave as Leaves}
 use Rattle.epoch_laws.specs.declared.steps.Kind.TheVariants.{Leave}
-use Rattle.epoch_laws.specs.Places.{is_among}
+use Rattle.epoch_laws.specs.Places.{Place, is_among}
 use Rattle.epoch_laws.specs.ReclaimSteps.{has_global, MayLeave, IsDone}
 use Rattle.epoch_laws.specs.Seats.{Advanced, LeftGlobal}
+use Rattle.epoch_laws.specs.States.{IsPlace}
 use Rattle.epoch_laws.specs.Words.{WordName}
 use Rattle.epoch_laws.proofs.Lists.{among_nil}
 use Rattle.epoch_table.specs.declared.events.Happens.{Happens}
@@ -20,11 +22,14 @@ use Rattle.epoch_table.specs.Deeds.{deed}
 use Rattle.epoch_table.specs.Facts.{facts_after}
 use Rattle.epoch_table.specs.Kinds.{entries_of_items, looks_of, MayMake, Makes}
 use Rattle.epoch_table.specs.Released.{released_after, released_by}
+use Rattle.epoch_manager.specs.declared.homes.HomeChain.{HomeChain}
+use Rattle.epoch_manager.specs.Gathering.{Gathers, GathersOn, no_chains}
 use Rattle.epoch_manager.specs.Reclaiming.{scanned, looking, local_read, global_read, epoch_read, EntersReclaim, AdvancesTo}
 use Rattle.epoch_manager.specs.Releasing.{IsReleasing, IsKeptBy, freed_items, frees_after, reclaim_items, resting, Lists, ReleasesList, ReleasesAll, LeavesBoth, ReclaimsSeat, released_of}
+use Rattle.epoch_manager.proofs.Gatherings.{gathers_none, nothing_gathered}
 use Rattle.epoch_manager.proofs.LocalSteps.{entries_append}
 use Rattle.epoch_manager.proofs.ReclaimSteps.{leave_row, global_left, local_left}
-use Rattle.epoch_manager.proofs.ReleaseLists.{kept_then, freed-append, lists_then, number_on}
+use Rattle.epoch_manager.proofs.ReleaseLists.{kept_then, freed-append, lists_then, lists_gathered, released_gathered, number_on}
 use Rattle.epoch_manager.proofs.TokenSteps.{Seated, Goes, Among, made_of, as_among, then_among}
 
 module _ {C View' Call Reply State' : Type 0} (K : ClientTerms C View' Call Reply State') (opens : State' → Type 0) (step : State' → Call → Reply → State' → Type 0) (plan : Plan C) where
@@ -38,8 +43,8 @@ module _ {C View' Call Reply State' : Type 0} (K : ClientTerms C View' Call Repl
 
   module _ (m : Seated K opens step plan) (epoch : ℕ) where
     pub first_so : m.0.part.seat.reclaim.epoch ≡ epoch → m.0.part.seat.hand ≡ [] → m.0.part.seat.homing.tail ≡ None → (j : Seated K opens step plan) → AdvancesTo K opens step plan (epoch + 1) plan.shape.locales m j
-        → ReleasesAll K opens step plan epoch 0 0 m j
-    first_so read hand tail j advances =
+        → (chains : ℕ → Option HomeChain) → ((l : ℕ) → chains l ≡ None) → ReleasesAll K opens step plan epoch 0 0 chains m j
+    first_so read hand tail j advances chains empty =
         let is = advances.1 in
         let entries = entries_of_items m.0.number (Advances m.0.number (epoch + 1) ∷ []) in
         let none : released_of K opens step plan j ≡ [] = ap (λ c. released_by c j.0.mine) advances.0.same.number ∙ (ap (released_by m.0.number) advances.0.mine ∙ none_since m.0.number (epoch + 1) m.0.mine) in
@@ -51,14 +56,26 @@ module _ {C View' Call Reply State' : Type 0} (K : ClientTerms C View' Call Repl
             kept = subst (IsKeptBy m.0.part) (sym is) (record { token = refl; owned = refl; held = refl; chain = refl; won = refl; counts = λ p h. refl });
             client = ap (λ (p : Part View'). p.client) is;
           };
-          releasing = subst (IsReleasing plan.shape.locales epoch 0 0) (sym is)
-              (record { walking = record { phase = refl; walked = refl; hand = hand; tail = tail }; read = read; spread = refl; collected = refl; chain = refl });
+          releasing = subst (IsReleasing plan.shape epoch 0 0 chains) (sym is)
+              (record {
+                walking = record {
+                  phase = refl;
+                  walked = refl;
+                  gathers = subst (λ l. Gathers plan.shape l m.0.part.facts chains) (sym hand) (subst (Gathers plan.shape [] m.0.part.facts) (sym (fun_ext empty)) (gathers_none plan.shape m.0.part.facts));
+                  tail = tail;
+                };
+                read = read;
+                spread = refl;
+                collected = refl;
+                chain = refl;
+              });
           count = refl;
           has = record { many = ap length none; inside = λ p h. absurd (among_nil p (subst (λ l. is_among p l ≡ true) none h)); low = omega arith };
         }
 
-    pub list_so : (at freed total : ℕ) (j n : Seated K opens step plan) → ReleasesAll K opens step plan epoch at freed m j → ReleasesList K opens step plan epoch at freed 0 total j n → ReleasesAll K opens step plan epoch (at + 1) total m n
-    list_so at freed total j n so next =
+    pub list_so : (at freed total : ℕ) (chains now : ℕ → Option HomeChain) (j n : Seated K opens step plan) → ReleasesAll K opens step plan epoch at freed chains m j → ReleasesList K opens step plan epoch at freed 0 total now j n
+        → ReleasesAll K opens step plan epoch (at + 1) total now m n
+    list_so at freed total chains now j n so next =
         let number : j.0.number ≡ m.0.number = number_on K opens step plan m j _ _ so.went in
         let on : Lists K opens step plan j n (freed_items m.0.number next.pointers) next.pointers = subst (λ c. Lists K opens step plan j n (freed_items c next.pointers) next.pointers) number next.lists in
         let all = lists_then K opens step plan m j n (Advances m.0.number (epoch + 1) ∷ freed_items m.0.number so.pointers) (freed_items m.0.number next.pointers) so.pointers next.pointers so.went on in
@@ -73,8 +90,28 @@ module _ {C View' Call Reply State' : Type 0} (K : ClientTerms C View' Call Repl
           has = next.has;
         }
 
-    pub below_all : (at freed : ℕ) (j : Seated K opens step plan) → ReleasesAll K opens step plan epoch at freed m j → m.0.number < plan.callers → j.0.number < plan.callers
-    below_all at freed j so below = let number = number_on K opens step plan m j _ _ so.went in omega arith
+    -- what is left goes home
+    pub gathered_so : (at freed : ℕ) (chains : ℕ → Option HomeChain) (j n : Seated K opens step plan) → ReleasesAll K opens step plan epoch at freed chains m j → GathersOn K opens step plan no_chains j n → ReleasesAll K opens step plan epoch at freed no_chains m n
+    gathered_so at freed chains j n so on =
+        let same = on.under.same in
+        let releasing = so.releasing in
+        let released = released_gathered K opens step plan j n no_chains on in
+        record {
+          pointers = so.pointers;
+          went = lists_gathered K opens step plan m j n _ _ no_chains so.went on;
+          releasing = record {
+            walking = record { phase = same.phase ∙ releasing.walking.phase; walked = ap (λ r. r.walked) same.reclaim ∙ releasing.walking.walked; gathers = on.gathers; tail = on.none };
+            read = ap (λ r. r.epoch) same.reclaim ∙ releasing.read;
+            spread = ap (λ r. r.spread) same.reclaim ∙ releasing.spread;
+            collected = ap (λ r. r.collected) same.reclaim ∙ releasing.collected;
+            chain = ap (λ r. r.chain) same.reclaim ∙ releasing.chain;
+          };
+          count = so.count;
+          has = record { many = ap length released ∙ so.has.many; inside = subst (λ (l : List Place). (p : Place) → is_among p l ≡ true → IsPlace plan.shape p) (sym released) so.has.inside; low = so.has.low };
+        }
+
+    pub below_all : (at freed : ℕ) (chains : ℕ → Option HomeChain) (j : Seated K opens step plan) → ReleasesAll K opens step plan epoch at freed chains m j → m.0.number < plan.callers → j.0.number < plan.callers
+    below_all at freed chains j so below = let number = number_on K opens step plan m j _ _ so.went in omega arith
 
   -- ---- the leaves
 
@@ -135,7 +172,7 @@ module _ {C View' Call Reply State' : Type 0} (K : ClientTerms C View' Call Repl
 
   -- ---- all of it
 
-  module _ (m j k n : Seated K opens step plan) (epoch freed : ℕ) (enters : EntersReclaim K opens step plan m j (Ok epoch)) (all : ReleasesAll K opens step plan epoch plan.shape.locales freed j k) (leaves : LeavesBoth K opens step plan k n) where
+  module _ (m j k n : Seated K opens step plan) (epoch freed : ℕ) (enters : EntersReclaim K opens step plan m j (Ok epoch)) (all : ReleasesAll K opens step plan epoch plan.shape.locales freed no_chains j k) (leaves : LeavesBoth K opens step plan k n) where
     abbrev entered : Part View'
     entered = scanned plan.shape.tokens (plan.shape.locales * plan.shape.tokens) (looking epoch m.0.part)
 
@@ -147,6 +184,9 @@ module _ {C View' Call Reply State' : Type 0} (K : ClientTerms C View' Call Repl
 
     k_number : k.0.number ≡ m.0.number
     k_number = number_on K opens step plan j k _ _ all.went ∙ j_number
+
+    nothing : k.0.part.seat.hand ≡ []
+    nothing = nothing_gathered plan.shape k.0.part.seat.hand k.0.part.facts all.releasing.walking.gathers
 
     abbrev leave_items : List Item
     leave_items = Leaves m.0.number true ∷ Leaves m.0.number false ∷ []
@@ -194,6 +234,6 @@ module _ {C View' Call Reply State' : Type 0} (K : ClientTerms C View' Call Repl
           client = ap (λ (p : Part View'). p.client) is ∙ (all.went.client ∙ ap (λ (p : Part View'). frees_after K p.client all.pointers) j_is);
           phase = ap (λ (p : Part View'). p.seat.phase) is;
           walked = ap (λ (p : Part View'). p.seat.reclaim.walked) is ∙ walking.walked;
-          hand = ap (λ (p : Part View'). p.seat.hand) is ∙ walking.hand;
+          hand = ap (λ (p : Part View'). p.seat.hand) is ∙ nothing;
           tail = ap (λ (p : Part View'). p.seat.homing.tail) is ∙ walking.tail;
         }

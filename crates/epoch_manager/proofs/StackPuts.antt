@@ -1,10 +1,10 @@
 -- The rest of a taken chain goes onto a stack.
-use Rattle.std.proofs.Common.{◌≡◌, ◌≢◌, ◌<◌, ◌==◌, ℕ, Bool, true, false, List, [], ◌∷◌, length, Option, Some, None, refl, ap, ap₂, sym, ◌∙◌, subst, arith, eq-eqb}
+use Rattle.std.proofs.Common.{◌≡◌, ◌≢◌, ◌<◌, ◌==◌, ℕ, Bool, true, false, List, [], ◌∷◌, Option, Some, None, refl, ap, ap₂, sym, ◌∙◌, subst, arith, eq-eqb}
 use Rattle.pgas_base.specs.Pointers.{Pointer}
 use Rattle.pool_core.specs.FreeWords.{free_head_word, free_count, free_index}
 use Rattle.epoch_laws.specs.declared.steps.Kind.TheVariants.{StackLook, StackPut, HandLink}
-use Rattle.epoch_laws.specs.Chains.{Reaches, IsLed, led, led_in, led_over}
-use Rattle.epoch_laws.specs.Places.{place_of, index_in, is_among, without, without_all}
+use Rattle.epoch_laws.specs.Chains.{Reaches, IsLed, led_in, led_over}
+use Rattle.epoch_laws.specs.Places.{place_of, index_in, without_all}
 use Rattle.epoch_laws.specs.Seats.{StackLook as Look, NoLook, Looked, is_reclaiming}
 use Rattle.epoch_laws.specs.StackSteps.{same_head, last_stack_count}
 use Rattle.epoch_laws.specs.Words.{free_stack}
@@ -18,9 +18,9 @@ use Rattle.epoch_table.specs.Kinds.{MayMake, Makes}
 use Rattle.epoch_table.specs.Knowledge.{known_words}
 use Rattle.epoch_table.specs.Numbers.{head_in}
 use Rattle.epoch_manager.specs.Takes.{is_spent, CanSpend}
-use Rattle.epoch_manager.specs.TakeSeats.{IsSameFor, IsEmptyHanded, HasOne, SeatOf, Reads, IsChained, HoldsChain, HoldsRest, GoesHome, places, last_of}
-use Rattle.epoch_manager.proofs.HandChains.{last_among, of_last, leads_over, leaves_first, without_other}
-use Rattle.epoch_manager.proofs.HandHomes.{in_hand, hand_count, all_known, link_part, link_reads, link_chained, may_link}
+use Rattle.epoch_manager.specs.TakeSeats.{IsSameFor, IsEmptyHanded, HasOne, SeatOf, Reads, IsChained, HoldsChain, HoldsRest, GoesHome, AreOfChain, places, last_of}
+use Rattle.epoch_manager.proofs.HandChains.{last_among, of_last, leads_within, leaves_first}
+use Rattle.epoch_manager.proofs.HandHomes.{in_hand, all_known, link_part, link_reads, link_chained, may_link}
 use Rattle.epoch_manager.proofs.StackTakes.{head_here, head_else, head_same, head_other, look_part, look_reads, look_can}
 use Rattle.epoch_manager.proofs.TakeRows.{stack_put_row, put_won, put_lost}
 use Rattle.epoch_manager.proofs.Takes.{under_one, reads_then, number_still, can_still}
@@ -35,12 +35,8 @@ module _ {C View' Call Reply State' : Type 0} (K : ClientTerms C View' Call Repl
     leads_rest : (found : ℕ) (ends : ℕ → Bool) → ends word ≡ true → led_in (known_words part.facts found) part.seat.hand ends (place_of top) (place_of (last_of top rest)) ≡ Reaches (places (top ∷ rest))
     leads_rest found ends ends_so =
         let one = was.each.1.0 in
-        let many = hand_count K opens step plan part locale first (top ∷ rest) word was in
-        subst (λ l. led (length part.seat.hand) (known_words part.facts found) l ends (place_of (last_of top rest)) (without (place_of top) part.seat.hand) (place_of top) ≡ Reaches (places (top ∷ rest))) (sym one.local)
-        (leads_over plan.shape (length part.seat.hand) locale part.facts found ends (without (place_of top) part.seat.hand) top rest word (omega arith) was.linked.1 was.each.1 was.distinct.1
-        (λ p h. without_other p (place_of top) part.seat.hand (λ e. absurd (cc (was.distinct.1.0, ap (λ x. is_among x (places rest)) (sym e), h)))
-        (in_hand K opens step plan part locale first (top ∷ rest) word was p (among_more p (place_of first) (places (top ∷ rest)) (among_more p (place_of top) (places rest) h))))
-        ends_so)
+        leads_within plan.shape part.facts found ends part.seat.hand top rest word was.linked.1 (subst (λ l. AreOfChain plan.shape part.facts l rest) (sym one.local) was.each.1.1) was.distinct.1
+        (λ p h. in_hand K opens step plan part locale first (top ∷ rest) word was p (among_more p (place_of first) (places (top ∷ rest)) h)) ends_so
 
     leaves_one : (found : ℕ) (ends : ℕ → Bool) → ends word ≡ true → without_all (led_over (led_in (known_words part.facts found) part.seat.hand ends (place_of top) (place_of (last_of top rest)))) part.seat.hand ≡ place_of first ∷ []
     unfolding led_over
@@ -101,7 +97,7 @@ module _ {C View' Call Reply State' : Type 0} (K : ClientTerms C View' Call Repl
         )
 
     pub pa_may_link : MayMake K plan a.0.number (HandLink tail link) a.0.part
-    pa_may_link = subst (λ q. MayMake K plan a.0.number (HandLink q link) a.0.part) (sym holds.last) (may_link K opens step plan a first.locale first all holds.word link pa_chained pa_below pa_quiet)
+    pa_may_link = subst (λ q. MayMake K plan a.0.number (HandLink q link) a.0.part) (sym holds.last) (may_link K opens step plan a first.locale first all holds.word link pa_chained pa_below)
 
     module _ (links : Makes K opens step plan (HandLink tail link) a x b) where
       links' : Makes K opens step plan (HandLink (last_of first all) link) a x b

@@ -19,6 +19,36 @@ use Rattle.epoch_table.specs.Facts.{Facts, count_of}
 use Rattle.epoch_table.specs.Knowledge.{Told, AreAllKnown, known_words, tells, Row}
 use Rattle.epoch_table.specs.Numbers.{header_in, head_in}
 
+-- ---- of an object or a chain of the hand, also in a reclaim
+
+module _ (shape : Shape) (seats c : ℕ) (seat : Seat) (facts : Facts) (below : c < seats) where
+  pub hand_link_row : (q : Pointer) (word : ℕ) → IsPlace shape (place_of q) → count_of facts (place_of q) ≡ Some q.count → is_among (place_of q) seat.hand ≡ true → Row shape seats c seat facts (HandLink q word)
+  unfolding move hand_link
+  hand_link_row q word inside count among = ((below, (inside, (ap (λ x. unwrap_or x 0) count, (among, tt)))), count)
+
+  pub home_link_row : (p : Place) → seat.homing.tail ≡ Some p → Row shape seats c seat facts HomeLink
+  unfolding move home_link
+  home_link_row p waits = ((below, ((p, waits), tt)), tt)
+
+  -- both ends of a chain are objects of the shape and of the hand, of one locale
+  pub record AreEnds (locale : ℕ) (top tail : Pointer) : Type 0 where
+    pub top_inside : IsPlace shape (place_of top)
+    pub tail_inside : IsPlace shape (place_of tail)
+    pub top_count : count_of facts (place_of top) ≡ Some top.count
+    pub tail_count : count_of facts (place_of tail) ≡ Some tail.count
+    pub top_hand : is_among (place_of top) seat.hand ≡ true
+    pub tail_hand : is_among (place_of tail) seat.hand ≡ true
+    pub top_locale : top.locale ≡ locale
+    pub tail_locale : tail.locale ≡ locale
+
+  pub home_swap_row : (top tail : Pointer) → AreEnds top.locale top tail → seat.homing.tail ≡ None → AreAllKnown facts seat.hand
+      → IsLed (led_in (known_words facts 0) seat.hand (λ word. word == pending) (place_of top) (place_of tail)) → Row shape seats c seat facts (HomeSwap top tail)
+  unfolding move home_swap
+  home_swap_row top tail ends none known led =
+      ((below, (ends.top_inside, (ends.tail_inside, (none, (ap (λ x. unwrap_or x 0) ends.top_count, (ap (λ x. unwrap_or x 0) ends.tail_count, ((ends.top_hand, refl), ((ends.tail_hand, ends.tail_locale), (led, tt))))))))), known)
+
+-- ---- where the seat is in none
+
 module _ (shape : Shape) (seats c : ℕ) (seat : Seat) (facts : Facts) (below : c < seats) (rests : is_reclaiming seat.phase ≡ false) where
   pub take_look_row : (l i : ℕ) → IsPlace shape (record { locale = l; index = i }) → Row shape seats c seat facts (TakeLook l i)
   unfolding move take_look
@@ -49,36 +79,11 @@ module _ (shape : Shape) (seats c : ℕ) (seat : Seat) (facts : Facts) (below : 
   unfolding move home_walk
   home_walk_row some = ((below, ((rests, some), tt)), tt)
 
-  pub hand_link_row : (q : Pointer) (word : ℕ) → IsPlace shape (place_of q) → count_of facts (place_of q) ≡ Some q.count → is_among (place_of q) seat.hand ≡ true → Row shape seats c seat facts (HandLink q word)
-  unfolding move hand_link
-  hand_link_row q word inside count among = ((below, (inside, (ap (λ x. unwrap_or x 0) count, (among, tt)))), count)
-
-  pub home_link_row : (p : Place) → seat.homing.tail ≡ Some p → Row shape seats c seat facts HomeLink
-  unfolding move home_link
-  home_link_row p waits = ((below, ((p, waits), tt)), tt)
-
-  -- both ends of a chain are objects of the shape and of the hand, of one locale
-  pub record AreEnds (locale : ℕ) (top tail : Pointer) : Type 0 where
-    pub top_inside : IsPlace shape (place_of top)
-    pub tail_inside : IsPlace shape (place_of tail)
-    pub top_count : count_of facts (place_of top) ≡ Some top.count
-    pub tail_count : count_of facts (place_of tail) ≡ Some tail.count
-    pub top_hand : is_among (place_of top) seat.hand ≡ true
-    pub tail_hand : is_among (place_of tail) seat.hand ≡ true
-    pub top_locale : top.locale ≡ locale
-    pub tail_locale : tail.locale ≡ locale
-
-  pub stack_put_row : (top tail : Pointer) → AreEnds seat.stack.locale top tail → seat.stack.phase ≢ NoLook → seat.stack.head.count < last_stack_count → AreAllKnown facts seat.hand
+  pub stack_put_row : (top tail : Pointer) → AreEnds shape seats c seat facts below seat.stack.locale top tail → seat.stack.phase ≢ NoLook → seat.stack.head.count < last_stack_count → AreAllKnown facts seat.hand
       → IsLed (led_in (known_words facts 0) seat.hand (λ word. index_in word == seat.stack.head.index) (place_of top) (place_of tail)) → Row shape seats c seat facts (StackPut top tail)
   unfolding move stack_put
   stack_put_row top tail ends looked low known led =
       ((below, (ends.top_inside, (ends.tail_inside, ((rests, looked, low), (ap (λ x. unwrap_or x 0) ends.top_count, (ap (λ x. unwrap_or x 0) ends.tail_count, ((ends.top_hand, ends.top_locale), ((ends.tail_hand, ends.tail_locale), (led, tt))))))))), known)
-
-  pub home_swap_row : (top tail : Pointer) → AreEnds top.locale top tail → seat.homing.tail ≡ None → AreAllKnown facts seat.hand
-      → IsLed (led_in (known_words facts 0) seat.hand (λ word. word == pending) (place_of top) (place_of tail)) → Row shape seats c seat facts (HomeSwap top tail)
-  unfolding move home_swap
-  home_swap_row top tail ends none known led =
-      ((below, (ends.top_inside, (ends.tail_inside, (none, (ap (λ x. unwrap_or x 0) ends.top_count, (ap (λ x. unwrap_or x 0) ends.tail_count, ((ends.top_hand, refl), ((ends.tail_hand, ends.tail_locale), (led, tt))))))))), known)
 
 module _ (shape : Shape) (seats c : ℕ) (seat : Seat) (facts : Facts) where
   -- a step that lists nothing and leaves its seat so

@@ -1,7 +1,7 @@
 pub mod PlainCells
 pub mod Cells
 mod PointerWords
-mod Apart
+pub mod Apart
 pub mod CellLaws
 pub mod Fits
 pub mod Managers
@@ -16,6 +16,8 @@ pub mod HeldNumbers
 pub mod HoldCalls
 pub mod Takes
 pub mod TakeSeats
+pub mod HomeChains
+pub mod Gathering
 pub mod TakeCalls
 pub mod Releasing
 pub mod ReclaimCalls

@@ -1,6 +1,7 @@
 -- What a reclaim does between its advance and its leaves.
-use Rattle.std.specs.Prelude.{◌≡◌, ◌+◌, ◌*◌, ◌≤◌, ◌<◌, ◌++◌, ℕ, true, false, List, [], ◌∷◌, length, map, fold, None, Result, Ok, Err}
+use Rattle.std.specs.Prelude.{◌≡◌, ◌+◌, ◌*◌, ◌≤◌, ◌<◌, ◌++◌, ℕ, true, false, List, [], ◌∷◌, length, map, fold, Option, None, Result, Ok, Err}
 use Rattle.pass_book.specs.declared.entries.Look.{Look}
+use Rattle.pgas_base.specs.declared.shapes.Shape.{Shape}
 use Rattle.pgas_base.specs.Pointers.{Pointer}
 use Rattle.epoch_laws.specs.declared.events.EpochEvent.TheVariants.{Freed}
 use Rattle.epoch_laws.specs.declared.events.Item.{Item}
@@ -22,24 +23,26 @@ use Rattle.epoch_table.specs.Kinds.{entries_of_items}
 use Rattle.epoch_table.specs.Released.{released_by}
 use Rattle.epoch_table.specs.Rule.{manager_terms}
 use Rattle.epoch_manager.specs.declared.faults.NotNow.{NotNow}
+use Rattle.epoch_manager.specs.declared.homes.HomeChain.{HomeChain}
 use Rattle.epoch_manager.specs.declared.reclaims.Advanced.{Advanced as Reclaimed}
+use Rattle.epoch_manager.specs.Gathering.{Gathers}
 use Rattle.epoch_manager.specs.Reclaiming.{ArePassed, local_read, global_read, epoch_read, EntersReclaim}
 use Rattle.epoch_manager.specs.TakeSeats.{SeatOf, Has}
 
 -- ---- the lists
 
--- it has advanced, and whatever it has walked over is released and gone home
-pub record IsWalking {View' : Type 0} (part : Part View') : Type 0 where
+-- it has advanced, whatever it has walked over is released, and those that became free and are not home yet are these chains
+pub record IsWalking {View' : Type 0} (shape : Shape) (chains : ℕ → Option HomeChain) (part : Part View') : Type 0 where
   pub phase : part.seat.phase ≡ Advanced
   pub walked : part.seat.reclaim.walked ≡ []
-  pub hand : part.seat.hand ≡ []
+  pub gathers : Gathers shape part.seat.hand part.facts chains
   pub tail : part.seat.homing.tail ≡ None
 
 -- so many lists were collected, and the last one's chain goes on so
-pub record IsReleasing {View' : Type 0} (locales epoch lists word : ℕ) (part : Part View') : Type 0 where
-  pub walking : IsWalking part
+pub record IsReleasing {View' : Type 0} (shape : Shape) (epoch lists word : ℕ) (chains : ℕ → Option HomeChain) (part : Part View') : Type 0 where
+  pub walking : IsWalking shape chains part
   pub read : part.seat.reclaim.epoch ≡ epoch
-  pub spread : part.seat.reclaim.spread ≡ locales
+  pub spread : part.seat.reclaim.spread ≡ shape.locales
   pub collected : part.seat.reclaim.collected ≡ lists
   pub chain : part.seat.reclaim.chain ≡ word
 
@@ -81,14 +84,19 @@ module _ {C View' Call Reply State' : Type 0} (K : ClientTerms C View' Call Repl
     pub kept : IsKeptBy m.0.part n.0.part
     pub client : n.0.part.client ≡ frees_after K m.0.part.client pointers
 
-  -- an object of the chain was walked over and released, went home where it became free, and this word leads on
-  pub record ReleasesOne (q : Pointer) (word : ℕ) (m n : SeatOf K opens step plan) : Type 0 where
+  -- an object of the chain was walked over and released, and this word leads on
+  pub record FreesOne (q : Pointer) (word : ℕ) (m n : SeatOf K opens step plan) : Type 0 where
     pub lists : Lists m n (freed_items m.0.number (q ∷ [])) (q ∷ [])
-    pub walking : IsWalking n.0.part
+    pub phase : n.0.part.seat.phase ≡ Advanced
     pub reclaim : n.0.part.seat.reclaim ≡ record m.0.part.seat.reclaim { chain = word; walked = [] }
     pub leads : IsChainWord plan.shape word
     pub released : released_of n ≡ place_of q ∷ released_of m
     pub distinct : IsDistinct (released_of n)
+
+  -- and where it became free it has joined those of its home
+  pub record ReleasesOne (q : Pointer) (word : ℕ) (chains : ℕ → Option HomeChain) (m n : SeatOf K opens step plan) : Type 0 where
+    pub frees : FreesOne q word m n
+    pub walking : IsWalking plan.shape chains n.0.part
 
   -- so many objects were freed since the last advance, each one of the shape, and no more than it has
   pub record HasFreed (m : SeatOf K opens step plan) (freed : ℕ) : Type 0 where
@@ -97,19 +105,19 @@ module _ {C View' Call Reply State' : Type 0} (K : ClientTerms C View' Call Repl
     pub low : freed ≤ plan.shape.locales * plan.shape.objects
 
   -- The list of a locale was collected and objects of it were freed, with those before so many, and this word leads on
-  pub record ReleasesList (epoch list freed word total : ℕ) (m n : SeatOf K opens step plan) : Type 0 where
+  pub record ReleasesList (epoch list freed word total : ℕ) (chains : ℕ → Option HomeChain) (m n : SeatOf K opens step plan) : Type 0 where
     pub pointers : List Pointer
     pub lists : Lists m n (freed_items m.0.number pointers) pointers
-    pub releasing : IsReleasing plan.shape.locales epoch (list + 1) word n.0.part
+    pub releasing : IsReleasing plan.shape epoch (list + 1) word chains n.0.part
     pub leads : IsChainWord plan.shape word
     pub count : total ≡ freed + length pointers
     pub has : HasFreed n total
 
   -- The epoch is advanced and spread, and of so many locales what may be released was released: so many objects
-  pub record ReleasesAll (epoch lists freed : ℕ) (m n : SeatOf K opens step plan) : Type 0 where
+  pub record ReleasesAll (epoch lists freed : ℕ) (chains : ℕ → Option HomeChain) (m n : SeatOf K opens step plan) : Type 0 where
     pub pointers : List Pointer
     pub went : Lists m n (Advances m.0.number (epoch + 1) ∷ freed_items m.0.number pointers) pointers
-    pub releasing : IsReleasing plan.shape.locales epoch lists 0 n.0.part
+    pub releasing : IsReleasing plan.shape epoch lists 0 chains n.0.part
     pub count : freed ≡ length pointers
     pub has : HasFreed n freed
 

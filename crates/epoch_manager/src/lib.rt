@@ -13,6 +13,7 @@ mod deferrals;
 mod faults;
 mod gets;
 mod holds;
+mod homes;
 mod lending;
 mod managers;
 mod notes;

@@ -6,16 +6,28 @@ ghost use Rattle.epoch_laws.specs.Needs.{event};
 ghost use Rattle.epoch_table.specs.Clients.{Returns};
 ghost use Rattle.pass_table.specs.Passes.{IsSeatOf, view_of, me_of};
 ghost use Rattle.epoch_manager.specs.Managers.{plan_of, shape_of, callers_of, opening_of, pass_opening, phase_of, caller_of, page, owned_by, held_by, knows, others, IsSamePass, change, ListsItems, ReadsWords};
+ghost use Rattle.epoch_manager.specs.Gathering.{HasChain, SendsHome};
 ghost use Rattle.epoch_manager.specs.Returning.{HasAlone, GoesAlone, MayReturn, ReturnsSeat, ReturnCause};
 
+use crate::homes::PENDING;
 use crate::managers::{Manager, Pass};
 use epoch_table::{Client, TableSeat};
 use pgas_base::Ptr;
 
-// The next word of an object that has no link yet.
-const PENDING: u64 = u64::MAX;
-
 impl<C: Client> Manager<C> {
+    // Hands a chain of the hand home, whose tail has no link yet.
+    #[inline]
+    pub(crate) fn chain_home(&self, seat: &mut TableSeat<C>, top: Ptr, tail: Ptr)
+        requires seat { IsSeatOf self.now.words.table seat.old }
+        requires below { (view_of seat.old).number < callers_of self.now }
+        requires chain { HasChain (shape_of self.now) (view_of seat.old).part top tail }
+        ensures seat { IsSeatOf self.now.words.table seat.new }
+        ensures sends { SendsHome C.terms C.Object.opens C.Object.step (plan_of self.now) top tail (me_of seat.old) (me_of seat.new) }
+    {
+        let old = self.words.home_swap(seat, top, tail);
+        self.words.home_link(seat, tail.locale(), tail.index(), old);
+    }
+
     // Hands the object that is alone in the hand home, as a chain of one.
     #[inline]
     pub(crate) fn go_home(&self, seat: &mut TableSeat<C>, ptr: Ptr)
@@ -26,8 +38,7 @@ impl<C: Client> Manager<C> {
         ensures goes { GoesAlone C.terms C.Object.opens C.Object.step (plan_of self.now) ptr (me_of seat.old) (me_of seat.new) }
     {
         self.words.hand_link(seat, ptr, PENDING);
-        let old = self.words.home_swap(seat, ptr, ptr);
-        self.words.home_link(seat, ptr.locale(), ptr.index(), old);
+        self.chain_home(seat, ptr, ptr);
     }
 
     // The four steps of a give-back: the object is free, and goes home as a chain of one.

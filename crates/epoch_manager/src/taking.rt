@@ -15,15 +15,13 @@ ghost use Rattle.epoch_manager.specs.Takes.{SaysFree};
 ghost use Rattle.epoch_manager.specs.TakeSeats.{IsEmptyHanded, IsKnowing, HasOne, IsChained, HoldsChain, HoldsRest, Gets, GetsHead, Scans, Walks, WalksRest, GoesHome, TakesOne};
 
 use crate::gets::Get;
+use crate::homes::PENDING;
 use crate::managers::Manager;
 use epoch_table::{Client, TableSeat};
 use pass_table::pause;
 use pgas_base::Ptr;
 use pool_core::{State, free_word, of_free_word};
 use std::sync::Wait;
-
-/// The next word of an object whose link wasn't stored yet.
-const PENDING: u64 = u64::MAX;
 
 /// The last count of a stack's head. No exchange is tried from there.
 pub(crate) const LAST_COUNT: u64 = (1 << 40) - 1;
@@ -175,14 +173,12 @@ impl<C: Client> Manager<C> {
     fn hand_home(&self, seat: &mut TableSeat<C>, first: Ptr, tail: Ptr)
         requires seat { IsSeatOf self.now.words.table seat.old }
         requires below { (view_of seat.old).number < callers_of self.now }
-        requires phase { is_reclaiming (view_of seat.old).part.seat.phase ≡ false }
         requires chain { HoldsChain (shape_of self.now) (view_of seat.old).part first tail }
         ensures seat { IsSeatOf self.now.words.table seat.new }
         ensures home { GoesHome C.terms C.Object.opens C.Object.step (plan_of self.now) (me_of seat.old) (me_of seat.new) }
     {
         self.words.hand_link(seat, tail, PENDING);
-        let old = self.words.home_swap(seat, first, tail);
-        self.words.home_link(seat, tail.locale(), tail.index(), old);
+        self.chain_home(seat, first, tail);
     }
 
     // Puts what is in the hand beside the first object onto their locale's stack. After each lost exchange it looks

@@ -528,8 +528,26 @@ fn freed_by(manager: &Manager<Cells>, pass: &mut Pass<Cells>) -> Option<u32>
     }
 }
 
-// Puts an object into a cell, cuts it out again and defers it. How many objects each of the next reclaims frees, and the
-// word of the object that is then taken.
+// Puts an object into a cell, cuts it out again and defers it. Whether there was one.
+fn defer_an_object(rt: &impl Wait, manager: &Manager<Cells>, pass: &mut Pass<Cells>) -> bool
+    requires opening { pass_opening pass.old ≡ opening_of manager.now }
+    requires phase { (token : Token) × (phase_of pass.old ≡ Phase.Registered token) }
+    requires cells { 0 < (plan_of manager.now).own }
+    requires locales { 0 < (shape_of manager.now).locales }
+    ensures opening { pass_opening pass.new ≡ pass_opening pass.old }
+    ensures phase { (token : Token) × (phase_of pass.new ≡ Phase.Registered token) }
+{
+    let Ok(ptr) = manager.take(rt, pass, 0) else {
+        return false;
+    };
+    manager.pin(pass);
+    put_into_a_cell(manager, pass, ptr);
+    defer_what_a_cell_names(manager, pass);
+    manager.unpin(pass);
+    true
+}
+
+// Defers an object. How many objects each of the next reclaims frees, and the word of the object that is then taken.
 fn free_an_object(
     rt: &impl Wait,
     manager: &Manager<Cells>,
@@ -540,13 +558,9 @@ fn free_an_object(
     requires cells { 0 < (plan_of manager.now).own }
     requires locales { 0 < (shape_of manager.now).locales }
 {
-    let Ok(ptr) = manager.take(rt, pass, 0) else {
+    if !defer_an_object(rt, manager, pass) {
         return None;
-    };
-    manager.pin(pass);
-    put_into_a_cell(manager, pass, ptr);
-    defer_what_a_cell_names(manager, pass);
-    manager.unpin(pass);
+    }
     let first = freed_by(manager, pass);
     let second = freed_by(manager, pass);
     let third = freed_by(manager, pass);
@@ -580,5 +594,88 @@ fn a_deferred_object_is_freed_and_comes_again(rt: HostRuntime) {
         let freed = free_an_object(&rt, &manager, &mut pass);
         let again = Ptr::new(0, 1, 1).word();
         assert_eq!(rt; freed, Some(([Some(0), Some(0), Some(1)], again)));
+    }
+}
+
+// Defers so many objects. Whether there were as many.
+fn defer_objects(
+    rt: &impl Wait,
+    manager: &Manager<Cells>,
+    pass: &mut Pass<Cells>,
+    many: u32,
+) -> bool
+    requires opening { pass_opening pass.old ≡ opening_of manager.now }
+    requires phase { (token : Token) × (phase_of pass.old ≡ Phase.Registered token) }
+    requires cells { 0 < (plan_of manager.now).own }
+    requires locales { 0 < (shape_of manager.now).locales }
+    ensures opening { pass_opening pass.new ≡ pass_opening pass.old }
+    ensures phase { (token : Token) × (phase_of pass.new ≡ Phase.Registered token) }
+{
+    for _ in 0..many {
+        if !defer_an_object(rt, manager, pass) {
+            return false;
+        }
+    }
+    true
+}
+
+// Takes objects, up to so many. How many of them had been freed once.
+fn take_freed(rt: &impl Wait, manager: &Manager<Cells>, pass: &mut Pass<Cells>, many: u32) -> u32
+    requires opening { pass_opening pass.old ≡ opening_of manager.now }
+    requires locales { 0 < (shape_of manager.now).locales }
+{
+    let mut freed = 0;
+    for _ in 0..many {
+        let Ok(ptr) = manager.take(rt, pass, 0) else {
+            return freed;
+        };
+        if ptr.count() == 1 {
+            freed += 1;
+        }
+    }
+    freed
+}
+
+// Frees 45 objects, 40 of them of one home. How many the third reclaim frees, and how many of all 80 were freed once.
+fn free_many(
+    rt: &impl Wait,
+    manager: &Manager<Cells>,
+    pass: &mut Pass<Cells>,
+) -> Option<(Option<u32>, u32)>
+    requires opening { pass_opening pass.old ≡ opening_of manager.now }
+    requires phase { (token : Token) × (phase_of pass.old ≡ Phase.Registered token) }
+    requires cells { 0 < (plan_of manager.now).own }
+    requires locales { 0 < (shape_of manager.now).locales }
+{
+    if !defer_objects(rt, manager, pass, 45) {
+        return None;
+    }
+    freed_by(manager, pass);
+    freed_by(manager, pass);
+    let freed = freed_by(manager, pass);
+    Some((freed, take_freed(rt, manager, pass, 80)))
+}
+
+// One reclaim hands home more objects of one locale than go home together, and some of another, and none is lost.
+#[test]
+fn objects_of_two_homes_that_are_freed_together_all_come_again(rt: HostRuntime) {
+    let large = Shape {
+        objects: 40,
+        ..shape(1)
+    };
+    let (manager, mut passes) = Manager::open(
+        rt.alloc(),
+        large,
+        Start::usual(),
+        1,
+        Cells::new(1),
+    ).expect(&rt, "memory");
+    let Some(mut pass) = take_pass(&manager, &mut passes) else {
+        return;
+    };
+    let _ = manager.register(&mut pass, 0);
+    if let Phase::Registered { .. } = pass.phase() {
+        let freed = free_many(&rt, &manager, &mut pass);
+        assert_eq!(rt; freed, Some((Some(45), 45)));
     }
 }

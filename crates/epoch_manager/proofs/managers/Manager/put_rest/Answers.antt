@@ -8,7 +8,7 @@ use Rattle.pass_table.specs.Passes.{me_of}
 use Rattle.epoch_manager.specs.Managers.{plan_of}
 use Rattle.epoch_manager.specs.TakeSeats.{HasOne}
 use Rattle.epoch_manager.proofs.HandHomes.{home_place}
-use Rattle.epoch_manager.proofs.StackPuts.{pa_below, pa_quiet, pa_holds, p_spent, pa_may_link, pb_stack, pb_may_put, p_won, p_lost}
+use Rattle.epoch_manager.proofs.StackPuts.{pa_below, pa_holds, p_spent, pa_may_link, pb_stack, pb_may_put, p_won, p_lost}
 use Rattle.epoch_manager.proofs.StackTakes.{may_look}
 use Rattle.epoch_manager.proofs.Takes.{reads_none, number_still}
 use Rattle.epoch_manager.proofs.managers.Manager.put_rest.Goals as goal
@@ -58,28 +58,6 @@ stack_look-requires-clause-may g c =
     let number = number_still K o s p m k sofar.1.looks under in
     let same = c.locale.ensures.value in
     may_look K o s p k c.locale.result (omega (arith, low, number)) (ap is_reclaiming under.same.phase ∙ c.requires.phase) (omega (arith, same, c.requires.locale))
-
-pub hand_home-requires-clause-phase : goal.hand_home-requires-clause-phase
-hand_home-requires-clause-phase g c =
-    let K = g.C.Client.terms in
-    let o = g.C.Object.Object.opens in
-    let s = g.C.Object.Object.step in
-    let p = plan_of c.args.self.now in
-    let first = c.args.first in
-    let top = c.args.top in
-    let tail = c.args.tail in
-    let l = first.locale in
-    let m = me_of c.args.seat.now in
-    let k = me_of c.loop.seat in
-    let sofar = c.loop.invariant.reads in
-    let holds = c.loop.invariant.holds in
-    let a = me_of c.stack_look.new.seat in
-    let hw = c.stack_look.result in
-    let looks = subst (λ i. Makes K o s p (StackLook i) k hw a) c.locale.ensures.value c.stack_look.ensures.makes in
-    let head = c.of_free_word-head in
-    let count = head.result.count in
-    let index = head.result.index in
-    pa_quiet K o s p m k a a a first top tail l count index hw 0 0 0 sofar.0 sofar.1 holds refl c.requires.below c.requires.phase head.ensures.count head.ensures.index looks
 
 pub hand_home-requires-clause-chain : goal.hand_home-requires-clause-chain
 hand_home-requires-clause-chain g c =
@@ -146,8 +124,7 @@ hand_link-requires-clause-place g c =
     let count = head.result.count in
     let index = head.result.index in
     let low = pa_below K o s p m k a a a first top tail l count index hw 0 0 0 sofar.0 sofar.1 holds refl c.requires.below c.requires.phase head.ensures.count head.ensures.index looks in
-    let quiet = pa_quiet K o s p m k a a a first top tail l count index hw 0 0 0 sofar.0 sofar.1 holds refl c.requires.below c.requires.phase head.ensures.count head.ensures.index looks in
-    subst (λ h. IsPlace h (place_of tail)) c.args.self.now.words.planned (home_place K o s p a a a a first tail 0 0 0 (pa_holds K o s p m k a a a first top tail l count index hw 0 0 0 sofar.0 sofar.1 holds refl c.requires.below c.requires.phase head.ensures.count head.ensures.index looks) low quiet)
+    subst (λ h. IsPlace h (place_of tail)) c.args.self.now.words.planned (home_place K o s p a first tail (pa_holds K o s p m k a a a first top tail l count index hw 0 0 0 sofar.0 sofar.1 holds refl c.requires.below c.requires.phase head.ensures.count head.ensures.index looks) low)
 
 pub hand_link-requires-clause-may : goal.hand_link-requires-clause-may
 hand_link-requires-clause-may g c =

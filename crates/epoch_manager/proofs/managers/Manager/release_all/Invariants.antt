@@ -1,4 +1,5 @@
 use Rattle.pass_table.specs.Passes.{IsSeatOf, me_of}
+use Rattle.epoch_manager.specs.HomeChains.{chain_of}
 use Rattle.epoch_manager.specs.Managers.{plan_of}
 use Rattle.epoch_manager.specs.Releasing.{ReleasesAll}
 use Rattle.epoch_manager.proofs.managers.Manager.release_all.Given as goal
@@ -6,5 +7,5 @@ use Rattle.epoch_manager.proofs.managers.Manager.release_all.Given as goal
 abbrev pub invariant-loop-locale : goal.invariant-loop-locale
 invariant-loop-locale g l = record {
   seat : IsSeatOf l.self.words.table l.seat;
-  releases : ReleasesAll g.C.Client.terms g.C.Object.Object.opens g.C.Object.Object.step (plan_of l.self) l.epoch l.locale l.freed (me_of l.fn.seat) (me_of l.seat);
+  releases : ReleasesAll g.C.Client.terms g.C.Object.Object.opens g.C.Object.Object.step (plan_of l.self) l.epoch l.locale l.freed (chain_of l.homes.chains) (me_of l.fn.seat) (me_of l.seat);
 }
