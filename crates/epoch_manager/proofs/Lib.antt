@@ -4,6 +4,7 @@ pub mod Known
 pub mod TokenSteps
 pub mod DeferralSteps
 pub mod ReturnSteps
+pub mod Marks
 pub mod ReclaimSteps
 pub mod ScanSteps
 pub mod GlobalSteps
