@@ -19,7 +19,7 @@ use Rattle.epoch_table.specs.Knowledge.{AreAllKnown, known_words}
 use Rattle.epoch_manager.specs.TakeSeats.{SeatOf, Reads, IsChained, HoldsChain, GoesHome, AreLinked, AreOfChain, places, last_of}
 use Rattle.epoch_manager.proofs.HandChains.{last_among, linked_again, each_still, of_last, leads_over, without_other}
 use Rattle.epoch_manager.proofs.TakeRows.{AreEnds, hand_link_row, home_swap_row, home_link_row, hand_link_told, home_swap_told, home_link_told}
-use Rattle.epoch_manager.proofs.Takes.{under_one, reads_then, number_still}
+use Rattle.epoch_manager.proofs.Takes.{none_of, one_of, under_one, reads_then, number_still}
 use Rattle.epoch_manager.proofs.TokenSteps.{Goes, made_of}
 
 module _ {C View' Call Reply State' : Type 0} (K : ClientTerms C View' Call Reply State') (opens : State' → Type 0) (step : State' → Call → Reply → State' → Type 0) (plan : Plan C) where
@@ -95,9 +95,9 @@ module _ {C View' Call Reply State' : Type 0} (K : ClientTerms C View' Call Repl
     link_reads l = record {
       looks = [];
       under = under_one K opens step plan m n [] linked_part link_goes (record { phase = refl; token = refl; owned = refl; held = refl; reclaim = refl; client = refl; counts = λ p has. refl });
+      local = none_of l;
       unheaded = λ p. refl;
       head_so = refl;
-      heads = λ k ne. refl;
     }
 
     pub link_chained : IsChained plan.shape n.0.part locale first rest word
@@ -178,13 +178,13 @@ module _ {C View' Call Reply State' : Type 0} (K : ClientTerms C View' Call Repl
       pub swap_part : n.0.part ≡ swapped_part
       swap_part = swap_goes.1
 
-      pub swap_reads : (l : ℕ) → Reads K opens step plan l m n None
-      swap_reads l = record {
+      pub swap_reads : Reads K opens step plan first.locale m n None
+      swap_reads = record {
         looks = record { name = home_chain first.locale; word = found } ∷ [];
         under = under_one K opens step plan m n _ swapped_part swap_goes (record { phase = refl; token = refl; owned = refl; held = refl; reclaim = refl; client = refl; counts = λ p has. refl });
+        local = one_of first.locale (home_chain first.locale) found refl;
         unheaded = λ p. refl;
         head_so = refl;
-        heads = λ k ne. refl;
       }
 
   -- ---- the link of the tail
@@ -218,9 +218,9 @@ module _ {C View' Call Reply State' : Type 0} (K : ClientTerms C View' Call Repl
       under =
           under_one K opens step plan m n [] home_part home_goes
           (record { phase = refl; token = refl; owned = refl; held = refl; reclaim = refl; client = refl; counts = λ p has. link_counts m.0.part.seat.homing.tail m.0.part.seat.homing.old found m.0.part.facts p });
+      local = none_of l;
       unheaded = λ p. refl;
       head_so = refl;
-      heads = λ k ne. refl;
     }
 
   -- ---- all three
@@ -261,8 +261,8 @@ module _ {C View' Call Reply State' : Type 0} (K : ClientTerms C View' Call Repl
         b_part : b.0.part ≡ record a.0.part { seat = record a.0.part.seat { hand = []; homing = record a.0.part.seat.homing { tail = Some (place_of (last_of first holds.rest)); old = y } } }
         b_part = swap_part a first holds.rest a_chained a_below a_quiet b y swaps'
 
-        b_reads : (l : ℕ) → Reads K opens step plan l m b None
-        b_reads l = reads_then K opens step plan l m a b None None (a_reads l) (swap_reads a first holds.rest a_chained a_below a_quiet b y swaps' l)
+        b_reads : Reads K opens step plan first.locale m b None
+        b_reads = reads_then K opens step plan first.locale m a b None None (a_reads first.locale) (swap_reads a first holds.rest a_chained a_below a_quiet b y swaps')
 
         pub b_tail : b.0.part.seat.homing.tail ≡ Some (place_of tail)
         b_tail = ap (λ (p : Part View'). p.seat.homing.tail) b_part ∙ ap (λ q. Some (place_of q)) (sym holds.last)
@@ -272,15 +272,15 @@ module _ {C View' Call Reply State' : Type 0} (K : ClientTerms C View' Call Repl
 
         pub home_may_end : MayMake K plan b.0.number HomeLink b.0.part
         home_may_end =
-            let r = b_reads 0 in
+            let r = b_reads in
             let number = number_still K opens step plan m b r.looks r.under in
             may_home_link b (place_of tail) (omega (arith, below, number)) (ap (λ (p : Part View'). is_reclaiming p.seat.phase) b_part ∙ a_quiet) b_tail
 
-        pub goes_home : Makes K opens step plan HomeLink b z d → GoesHome K opens step plan m d
+        pub goes_home : Makes K opens step plan HomeLink b z d → GoesHome K opens step plan first.locale m d
         goes_home ended =
             let part = home_is b d z ended in
             record {
-              reads = λ l. reads_then K opens step plan l m b d None None (b_reads l) (home_reads b d z ended l);
+              reads = reads_then K opens step plan first.locale m b d None None b_reads (home_reads b d z ended first.locale);
               empty = record {
                 hand = ap (λ (p : Part View'). p.seat.hand) part ∙ ap (λ (p : Part View'). p.seat.hand) b_part;
                 tail = ap (λ (p : Part View'). p.seat.homing.tail) part;

@@ -23,6 +23,7 @@ pub mod SpotClauses
 pub mod HoldClauses
 pub mod TakeRows
 pub mod Takes
+pub mod Tours
 pub mod StackTakes
 pub mod HeaderTakes
 pub mod HandChains
