@@ -1,6 +1,6 @@
 -- What trying locales for an object comes to, one after another.
 use Rattle.std.proofs.Common.{Option, Some, None, ◌≡◌, ◌⊎◌, ◌<◌, ◌≤◌, ◌||◌, ◌+◌, ◌-◌, ◌++◌, ℕ, Bool, true, false, List, [], ◌∷◌, refl, ap, sym, ◌∙◌, subst, inl, inr, ⊎_elim, arith}
-use Rattle.std.specs.Prelude.{is_some, not, Contains, Ok, Err}
+use Rattle.std.specs.Prelude.{is_some, not, Contains, Ok}
 use Rattle.std.specs.List.{range_with_len}
 use Rattle.std.proofs.lemmas.Bool.{false≢true}
 use Rattle.std.proofs.lemmas.Bool.Decides.{eqb_tells}

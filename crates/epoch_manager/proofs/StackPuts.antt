@@ -19,7 +19,7 @@ use Rattle.epoch_table.specs.Knowledge.{known_words}
 use Rattle.epoch_table.specs.Numbers.{head_in}
 use Rattle.epoch_manager.specs.declared.gets.Get.TheVariants.{Spent}
 use Rattle.epoch_manager.specs.Takes.{is_spent}
-use Rattle.epoch_manager.specs.TakeSeats.{IsSameFor, IsEmptyHanded, HasOne, SeatOf, Reads, Gets, IsChained, HoldsChain, HoldsRest, GoesHome, places, last_of}
+use Rattle.epoch_manager.specs.TakeSeats.{IsSameFor, HasOne, SeatOf, Reads, Gets, IsChained, HoldsChain, HoldsRest, GoesHome, places, last_of}
 use Rattle.epoch_manager.proofs.HandChains.{last_among, of_last, leads_over, leaves_first, without_other}
 use Rattle.epoch_manager.proofs.HandHomes.{in_hand, hand_count, all_known, link_part, link_reads, link_chained, may_link}
 use Rattle.epoch_manager.proofs.StackTakes.{head_here, head_same, head_other, head_unspent, look_part, look_reads, look_can}

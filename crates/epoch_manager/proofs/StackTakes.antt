@@ -17,7 +17,7 @@ use Rattle.epoch_table.specs.Kinds.{MayMake, Makes}
 use Rattle.epoch_table.specs.Numbers.{head_in}
 use Rattle.epoch_manager.specs.Takes.{last_head, is_spent, CanSpend}
 use Rattle.epoch_manager.specs.declared.gets.Get.TheVariants.{Got}
-use Rattle.epoch_manager.specs.TakeSeats.{Has, IsEmptyHanded, HasOne, SeatOf, Reads, GetsHead}
+use Rattle.epoch_manager.specs.TakeSeats.{Has, IsEmptyHanded, SeatOf, Reads, GetsHead}
 use Rattle.epoch_manager.proofs.TakeRows.{stack_look_row, stack_next_row, stack_pop_row, stack_look_told, stack_next_told, pop_won, pop_lost}
 use Rattle.epoch_manager.proofs.Takes.{one_of, under_one, reads_then}
 use Rattle.epoch_manager.proofs.TokenSteps.{Goes, made_of}

@@ -1,6 +1,6 @@
 -- Locales that are tried one after another.
-use Rattle.std.proofs.Common.{◌≡◌, ◌≢◌, ◌⊎◌, ◌<◌, ◌≤◌, ◌+◌, ◌-◌, ◌++◌, ℕ, zero, suc, true, false, ltb, List, [], ◌∷◌, length, Option, Some, None, refl, ap, ap₂, sym, ◌∙◌, subst, inl, inr, ⊎_elim, arith, append_assoc}
-use Rattle.std.specs.Prelude.{All, Contains}
+use Rattle.std.proofs.Common.{◌≡◌, ◌≢◌, ◌⊎◌, ◌<◌, ◌≤◌, ◌+◌, ◌-◌, ◌++◌, ℕ, zero, suc, ltb, List, [], ◌∷◌, None, refl, ap, ap₂, sym, ◌∙◌, subst, inl, inr, ⊎_elim, arith, append_assoc}
+use Rattle.std.specs.Prelude.{Contains}
 use Rattle.std.specs.List.{range_with_len}
 use Rattle.std.proofs.lemmas.Bool.{cases_Bool}
 use Rattle.std.proofs.lemmas.Bool.Decides.{eqb_tells}
@@ -11,7 +11,7 @@ use Rattle.pass_book.specs.declared.entries.Look.{Look}
 use Rattle.pass_table.specs.Words.{AreTries, joined}
 use Rattle.pgas_base.specs.declared.shapes.Shape.{Shape}
 use Rattle.pgas_base.specs.Pointers.{Pointer}
-use Rattle.epoch_laws.specs.Places.{Place, same_place}
+use Rattle.epoch_laws.specs.Places.{Place}
 use Rattle.epoch_laws.specs.Words.{WordName, global_epoch, global_election, local_epoch, local_election, list, free_stack, home_chain, token, header_of, next_of}
 use Rattle.epoch_laws.proofs.Updates.{same_place_tells}
 use Rattle.epoch_manager.specs.Takes.{header_read, head_read, later, last_header, last_head}

@@ -1,4 +1,3 @@
-use Rattle.std.proofs.Common.{arith}
 use Rattle.pass_table.specs.Passes.{me_of}
 use Rattle.epoch_manager.specs.Managers.{plan_of}
 use Rattle.epoch_manager.proofs.Rounds.{gone_none, gone_on, gone_takes, may_still, spent_refuses, no_room_refuses}

@@ -4,7 +4,7 @@ use Rattle.pass_table.specs.Passes.{me_of}
 use Rattle.epoch_manager.specs.Managers.{plan_of}
 use Rattle.epoch_manager.specs.declared.gets.Tried.TheVariants.{Taken}
 use Rattle.epoch_manager.specs.TakeSeats.{Misses, Tries}
-use Rattle.epoch_manager.proofs.Rounds.{round_misses, round_got, got_later, may_still}
+use Rattle.epoch_manager.proofs.Rounds.{round_misses, round_got, got_later}
 use Rattle.epoch_manager.proofs.managers.Manager.try_round.Goals as goal
 
 pub returns-in-Taken-clause-tries : goal.returns-in-Taken-clause-tries
