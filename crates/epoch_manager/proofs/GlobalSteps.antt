@@ -10,11 +10,13 @@ use Rattle.epoch_table.specs.declared.parts.Plan.{Plan}
 use Rattle.epoch_table.specs.declared.parts.Part.{Part}
 use Rattle.epoch_table.specs.Clients.{ClientTerms}
 use Rattle.epoch_table.specs.Deeds.{deed}
+use Rattle.epoch_table.specs.Events.{items_in}
 use Rattle.epoch_table.specs.Facts.{facts_after}
 use Rattle.epoch_table.specs.Kinds.{looks_of, entries_of_items, MayMake, Makes}
 use Rattle.epoch_manager.specs.declared.faults.NotNow.{NotNow}
 use Rattle.epoch_manager.specs.declared.faults.NotNow.TheVariants.{LocalBusy, GlobalBusy, EpochsSpent, Held}
 use Rattle.epoch_manager.specs.Reclaiming.{scanned, epoch_read, looking, reclaimed_to, global_read, IsRefusedBy, IsRefusedGlobally, LooksAndScans, EntersGlobally}
+use Rattle.epoch_manager.proofs.Marks.{global_mark}
 use Rattle.epoch_manager.proofs.ReclaimSteps.{global_won, global_lost, global_left, global_row, leave_row}
 use Rattle.epoch_manager.proofs.TokenSteps.{Seated, Goes, Among, made_of, as_among, then_among}
 
@@ -29,10 +31,12 @@ module _ {C View' Call Reply State' : Type 0} (K : ClientTerms C View' Call Repl
   module _ (m j : Seated K opens step plan) (found : ℕ) (elects : Makes K opens step plan ElectGlobal m found j) where
     pub busy_so : found ≢ 0 → EntersGlobally K opens step plan m j (Err GlobalBusy)
     busy_so ne =
-        let made = made_of K opens step plan ElectGlobal m j found _ (global_lost plan.shape plan.callers m.0.number m.0.part.seat m.0.part.facts found ne) elects in (
+        let made = made_of K opens step plan ElectGlobal m j found _ (global_lost plan.shape plan.callers m.0.number m.0.part.seat m.0.part.facts found ne) elects in
+        let meets = elects.1.0.meets in
+        let one : found ≡ 1 = global_mark plan.start.count (items_in meets.0) found meets.2 ne in (
           global_read found ∷ [],
           [],
-          (found, ne, refl, refl),
+          (ap (λ w. global_read w ∷ []) one, refl),
           (LostGlobal, m.0.part.seat.reclaim.epoch, m.0.part.seat.reclaim.scan, inl refl, as_among K opens step plan m j (global_read found ∷ []) [] (in_phase LostGlobal m.0.part) made),
         )
 

@@ -5,6 +5,7 @@ use Rattle.epoch_laws.specs.declared.steps.Kind.TheVariants.{HandLink}
 use Rattle.epoch_laws.specs.Chains.{Reaches, led_in}
 use Rattle.epoch_laws.specs.Places.{Place, place_of, pending, is_among, without_all}
 use Rattle.epoch_laws.specs.States.{IsPlace}
+use Rattle.epoch_laws.specs.Words.{home_chain}
 use Rattle.epoch_laws.proofs.Lists.{among_here, among_more, among_cons, among_one, among-append, among-append_left, among-append_right, left_none}
 use Rattle.epoch_laws.proofs.Updates.{place_here, place_there}
 use Rattle.epoch_table.specs.declared.parts.Plan.{Plan}
@@ -18,7 +19,7 @@ use Rattle.epoch_manager.specs.Returning.{home_words}
 use Rattle.epoch_manager.specs.TakeSeats.{SeatOf, Reads, IsChained, HoldsChain, GoesHome, AreOfChain, places, last_of}
 use Rattle.epoch_manager.proofs.HandChains.{last_among, linked_again, each_still, of_last, chain_known, leads_within}
 use Rattle.epoch_manager.proofs.TakeRows.{hand_link_row, hand_link_told}
-use Rattle.epoch_manager.proofs.Takes.{under_one, reads_then, number_still}
+use Rattle.epoch_manager.proofs.Takes.{none_of, one_of, under_one, reads_then, number_still}
 use Rattle.epoch_manager.proofs.TokenSteps.{Goes, made_of}
 
 module _ {C View' Call Reply State' : Type 0} (K : ClientTerms C View' Call Reply State') (opens : State' → Type 0) (step : State' → Call → Reply → State' → Type 0) (plan : Plan C) where
@@ -74,9 +75,9 @@ module _ {C View' Call Reply State' : Type 0} (K : ClientTerms C View' Call Repl
     link_reads l = record {
       looks = [];
       under = under_one K opens step plan m n [] linked_part link_goes (record { phase = refl; token = refl; owned = refl; held = refl; reclaim = refl; client = refl; counts = λ p has. refl });
+      local = none_of l;
       unheaded = λ p. refl;
       head_so = refl;
-      heads = λ k ne. refl;
     }
 
     pub link_chained : IsChained plan.shape n.0.part locale first rest word
@@ -150,20 +151,20 @@ module _ {C View' Call Reply State' : Type 0} (K : ClientTerms C View' Call Repl
       abbrev pub a_chain : HasChain plan.shape a.0.part first tail
       a_chain = as_chain a.0.part first holds.rest tail holds.last a_chained
 
-      pub goes_home : (d : S) → SendsHome K opens step plan first tail a d → GoesHome K opens step plan m d
+      pub goes_home : (d : S) → SendsHome K opens step plan first tail a d → GoesHome K opens step plan first.locale m d
       goes_home d sends =
           let old = (sends a_chain).0 in
           let goes = (sends a_chain).1 in
           let last = part_sent first holds.rest tail old a.0.part in
           record {
-            reads = λ l.
-                reads_then K opens step plan l m a d None None (a_reads l)
+            reads =
+                reads_then K opens step plan first.locale m a d None None (a_reads first.locale)
                 (record {
                   looks = home_words first.locale old;
                   under = under_one K opens step plan a d _ last goes (record { phase = refl; token = refl; owned = refl; held = refl; reclaim = refl; client = refl; counts = λ p has. refl });
+                  local = one_of first.locale (home_chain first.locale) old refl;
                   unheaded = λ p. refl;
                   head_so = refl;
-                  heads = λ k ne. refl;
                 });
             empty = record {
               hand = ap (λ (p : Part View'). p.seat.hand) goes.1 ∙ nothing_left a.0.part first.locale first holds.rest pending a_chained;

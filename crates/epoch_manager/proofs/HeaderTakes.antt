@@ -1,5 +1,7 @@
 -- Looks at headers, and an object of the hand that becomes the caller's own.
-use Rattle.std.proofs.Common.{◌≡◌, ◌≢◌, ◌<◌, ◌==◌, ◌+◌, ◌++◌, ◌^◌, ℕ, Bool, true, false, if◌then◌else◌, List, [], ◌∷◌, Some, None, refl, ap, ap₂, sym, ◌∙◌, subst, inl, inr, ⊎_elim, arith, eq-eqb}
+use Rattle.std.proofs.Common.{◌≡◌, ◌≢◌, ◌⊎◌, ◌<◌, ◌≤◌, ◌==◌, ◌+◌, ◌++◌, ◌^◌, ℕ, Bool, true, false, if◌then◌else◌, List, [], ◌∷◌, Option, Some, None, refl, ap, ap₂, sym, ◌∙◌, subst, inl, inr, ⊎_elim, arith, eq-eqb}
+use Rattle.std.specs.Prelude.{is_some}
+use Rattle.std.proofs.lemmas.Bool.{false≢true}
 use prog.Atomic.{either}
 use Rattle.pass_book.specs.declared.entries.Look.{Look}
 use Rattle.pgas_base.specs.Pointers.{Pointer}
@@ -22,10 +24,10 @@ use Rattle.epoch_table.specs.Facts.{Facts, Keeps, count_of, facts_after}
 use Rattle.epoch_table.specs.Kinds.{entries_of_items, MayMake, Makes}
 use Rattle.epoch_table.specs.Numbers.{header_in}
 use Rattle.epoch_table.proofs.Knowledge.{header_read}
-use Rattle.epoch_manager.specs.Takes.{later, last_header, SaysFree, IsTakenHeader}
-use Rattle.epoch_manager.specs.TakeSeats.{Has, IsKnowing, IsEmptyHanded, HasOne, SeatOf, Under, Scans, TakesOne}
+use Rattle.epoch_manager.specs.Takes.{later, last_header, SaysFree, IsTakenHeader, IsFreeHeader}
+use Rattle.epoch_manager.specs.TakeSeats.{Has, IsKnowing, IsEmptyHanded, HasOne, SeatOf, Under, Scans, TakesOne, OwnsOne}
 use Rattle.epoch_manager.proofs.TakeRows.{take_look_row, take_try_row, take_look_told, take_try_told}
-use Rattle.epoch_manager.proofs.Takes.{under_none, under_one, under_then, after_under, goes_own, had_still, headers_before, headers_after, heads-append, number_still}
+use Rattle.epoch_manager.proofs.Takes.{none_of, one_of, of_both, under_none, under_one, under_then, after_under, goes_own, had_still, headers_before, headers_after, heads-append, number_still}
 use Rattle.epoch_manager.proofs.TokenSteps.{Goes, made_of}
 
 -- the header of a free object says so
@@ -96,9 +98,11 @@ module _ {C View' Call Reply State' : Type 0} (K : ClientTerms C View' Call Repl
     looks = [];
     under = under_none K opens step plan m;
     rests = empty;
+    local = none_of l;
     heads = λ k. refl;
-    others = λ p other. refl;
+    headers = λ p local some most. absurd (omega arith);
     taken = λ free p local some most. absurd (omega arith);
+    found = λ t. absurd (false≢true t);
   }
 
   pub knowing_still : (m n : S) (looks : List (Look WordName)) → Under K opens step plan m n looks → IsKnowing m.0.part → IsKnowing n.0.part
@@ -108,31 +112,39 @@ module _ {C View' Call Reply State' : Type 0} (K : ClientTerms C View' Call Repl
       (known.0, under.same.counts p before ∙ known.1)
 
   pub scan_more : (l number : ℕ) (m k n : S) (free says found : Bool) (word : ℕ) → Scans K opens step plan l number m k free → IsKnowing m.0.part → Makes K opens step plan (TakeLook l (number + 1)) k word n
-      → (found ≡ false → (free ≡ false) × (¬ SaysFree word)) → Scans K opens step plan l (number + 1) m n found
-  scan_more l number m k n free says found word was knows makes tells =
+      → (found ≡ false → (free ≡ false) × (¬ SaysFree word)) → (found ≡ true → (free ≡ true) ⊎ SaysFree word) → Scans K opens step plan l (number + 1) m n found
+  scan_more l number m k n free says found word was knows makes tells finds =
       let p0 : Place = at_ l (number + 1) in
       let one : List (Look WordName) = record { name = header_of p0; word = word } ∷ [] in
       let under = see_known k n l (number + 1) word makes (knowing_still m k was.looks was.under knows) in
       let part = see_part k n l (number + 1) word makes in
+      let last_so : (P : Option ℕ → Type 0) → (P None → ⊥) → P (Some word) → (p : Place) → (p.index ≤ number → P (last_header was.looks p)) → p.locale ≡ l → p.index ≤ number + 1 → P (last_header (was.looks ++ one) p) =
+      λ P none here p before local most.
+      ⊎_elim
+      (λ e. headers_after P none was.looks one p (subst (λ q. P (last_header one q)) (sym e.1) (subst P (sym (header_here p0 word)) here)))
+      (λ e.
+      let ne = e.1 in
+      subst P (sym (headers_before was.looks one p (header_else p0 p word ne)))
+      (before (let off : p.index ≢ number + 1 = (λ same. ne (ap₂ (λ a b. at_ a b) local same)) in omega (arith, most, off))))
+      (same_place_tells p p0) in
       record {
         looks = was.looks ++ one;
         under = under_then K opens step plan m k n was.looks one was.under under;
         rests = subst IsEmptyHanded (sym part) (record { hand = was.rests.hand; tail = was.rests.tail; chain = was.rests.chain; won = was.rests.won });
+        local = of_both l was.looks one was.local (one_of l (header_of p0) word refl);
         heads = λ h. heads-append was.looks one h ∙ ap (λ x. later x None) (was.heads h);
-        others = λ p other.
-            headers_before was.looks one p (header_else p0 p word (λ e. let i : p.index ≡ number + 1 = ap (λ q. q.index) e in ⊎_elim (λ ne. ne (ap (λ q. q.locale) e)) (λ more. absurd (omega arith)) other))
-            ∙ was.others p (⊎_elim inl (λ more. inr (omega arith)) other);
-        taken = λ none p local some most.
-            let t = tells none in
+        headers = λ p local some most. last_so (λ o. is_some o ≡ true) false≢true refl p (λ less. was.headers p local some less) local most;
+        taken = λ none p local some most. let t = tells none in last_so IsTakenHeader (λ h. h) t.1 p (λ less. was.taken t.0 p local some less) local most;
+        found = λ some.
             ⊎_elim
-            (λ e.
-            headers_after was.looks one p
-            (subst (λ q. IsTakenHeader (last_header one q)) (sym e.1) (subst IsTakenHeader (sym (header_here p0 word)) t.1)))
-            (λ e.
-            let ne = e.1 in
-            subst IsTakenHeader (sym (headers_before was.looks one p (header_else p0 p word ne)))
-            (was.taken t.0 p local some (let off : p.index ≢ number + 1 = (λ same. ne (ap₂ (λ a b. at_ a b) local same)) in omega arith)))
-            (same_place_tells p p0);
+            (λ f.
+            let one_is = was.found f in
+            let low = one_is.2 in
+            let p1 : Place = at_ l one_is.0 in
+            let ne : p1 ≢ p0 = (λ e. let i : one_is.0 ≡ number + 1 = ap (λ q. q.index) e in absurd (omega (arith, low, i))) in
+            (one_is.0, one_is.1, omega (arith, low), subst IsFreeHeader (sym (headers_before was.looks one p1 (header_else p0 p1 word ne))) one_is.3))
+            (λ s. (number + 1, omega arith, omega arith, headers_after IsFreeHeader (λ h. h) was.looks one p0 (subst IsFreeHeader (sym (header_here p0 word)) s)))
+            (finds some);
       }
 
   -- ---- an object of the hand
@@ -215,7 +227,7 @@ module _ {C View' Call Reply State' : Type 0} (K : ClientTerms C View' Call Repl
       unfolding without
       nothing_left = ap (without (at_ l i)) k_hand ∙ ⊎_elim (λ e. rw e.0 refl) (λ e. let ne = e.1 in absurd (ne refl)) (same_place_tells (at_ l i) (at_ l i))
 
-      pub own_takes : TakesOne K opens step plan m n (record { locale = l; index = i; count = count })
+      pub own_takes : OwnsOne K opens step plan m n (record { locale = l; index = i; count = count })
       own_takes =
           let q : Pointer = record { locale = l; index = i; count = count } in
           let same = k_under.same in
@@ -226,9 +238,8 @@ module _ {C View' Call Reply State' : Type 0} (K : ClientTerms C View' Call Repl
           (subst (λ c. Goes K opens step plan k n more (entries_of_items k.0.number (event k.0.number (Given (record { locale = l; index = i; count = c })))) owned_part) (sym k_count) n_goes) in
           let part = n_goes.1 in
           let all = after_under K opens step plan m k n (record { name = header_of (at_ l i); word = header } ∷ []) more (entries_of_items m.0.number (event m.0.number (Given q))) owned_part k_under goes in
-          record {
+          let takes : TakesOne K opens step plan m n q = record {
             looks = record { name = header_of (at_ l i); word = header } ∷ more;
-            free = ap (later _) (header_here (at_ l i) found) ∙ ap Some is_found;
             goes = goes_own K opens step plan m n _ (entries_of_items m.0.number (event m.0.number (Given q))) owned_part all;
             phase = ap (λ (p : Part View'). p.seat.phase) part ∙ same.phase;
             token = ap (λ (p : Part View'). p.seat.token) part ∙ same.token;
@@ -247,4 +258,9 @@ module _ {C View' Call Reply State' : Type 0} (K : ClientTerms C View' Call Repl
             counts = λ p has.
                 let ne : p ≢ at_ l i = (λ e. one.others (subst (Has m.0.part) e has)) in
                 ap (λ (x : Part View'). count_of x.facts p) part ∙ (place_there _ (at_ l i) _ p ne ∙ (place_there (count_of k.0.part.facts) (at_ l i) None p ne ∙ same.counts p has));
+          } in record {
+            takes = takes;
+            local = of_both l (record { name = header_of (at_ l i); word = header } ∷ []) more (one_of l (header_of (at_ l i)) header refl) (one_of l (header_of (at_ l i)) found refl);
+            heads = λ h. refl;
+            free = ap (later _) (header_here (at_ l i) found) ∙ ap Some is_found;
           }

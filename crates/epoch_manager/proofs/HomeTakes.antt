@@ -15,10 +15,11 @@ use Rattle.epoch_table.specs.Clients.{ClientTerms}
 use Rattle.epoch_table.specs.Kinds.{MayMake, Makes}
 use Rattle.epoch_manager.specs.declared.gets.Get.{Get}
 use Rattle.epoch_manager.specs.declared.gets.Get.TheVariants.{Got, Empty}
+use Rattle.epoch_manager.specs.Takes.{later}
 use Rattle.epoch_manager.specs.TakeSeats.{Has, IsEmptyHanded, HasOne, SeatOf, Reads, Gets, Walks, WalksRest, IsChained, HoldsRest}
 use Rattle.epoch_manager.proofs.HandChains.{small_of}
 use Rattle.epoch_manager.proofs.TakeRows.{home_take_row, home_take_told}
-use Rattle.epoch_manager.proofs.Takes.{under_one, reads_then, gets_then, had_still}
+use Rattle.epoch_manager.proofs.Takes.{one_of, under_one, reads_then, gets_then, had_still}
 use Rattle.epoch_manager.proofs.TokenSteps.{Goes, made_of}
 
 module _ {C View' Call Reply State' : Type 0} (K : ClientTerms C View' Call Reply State') (opens : State' → Type 0) (step : State' → Call → Reply → State' → Type 0) (plan : Plan C) where
@@ -38,13 +39,13 @@ module _ {C View' Call Reply State' : Type 0} (K : ClientTerms C View' Call Repl
     n_part : n.0.part ≡ taken_part
     n_part = take_goes.1
 
-    pub n_reads : (i : ℕ) → Reads K opens step plan i m n None
-    n_reads i = record {
+    pub n_reads : Reads K opens step plan l m n None
+    n_reads = record {
       looks = record { name = home_chain l; word = found } ∷ [];
       under = under_one K opens step plan m n _ taken_part take_goes (record { phase = refl; token = refl; owned = refl; held = refl; reclaim = refl; client = refl; counts = λ p has. refl });
+      local = one_of l (home_chain l) found refl;
       unheaded = λ p. refl;
       head_so = refl;
-      heads = λ k ne. refl;
     }
 
     pub n_chain : n.0.part.seat.homing.chain ≡ found
@@ -56,9 +57,7 @@ module _ {C View' Call Reply State' : Type 0} (K : ClientTerms C View' Call Repl
     pub none_came : found ≡ 0 → Gets K opens step plan l m n Empty
     none_came none = (
       None,
-      n_reads l,
-      subst IsEmptyHanded (sym n_part) (record { hand = empty.hand; tail = empty.tail; chain = none; won = empty.won }),
-      refl,
+      (n_reads, subst IsEmptyHanded (sym n_part) (record { hand = empty.hand; tail = empty.tail; chain = none; won = empty.won }), refl),
     )
 
     module _ (first : Pointer) (is : IsPointer first) (same : word_of first ≡ found) where
@@ -75,8 +74,8 @@ module _ {C View' Call Reply State' : Type 0} (K : ClientTerms C View' Call Repl
       first_local = sym (ap (λ p. p.locale) named) ∙ makes.0.1 some
 
       module _ (k : S) (word : ℕ) (walks : Walks K opens step plan n k first word) where
-        pub k_reads : (i : ℕ) → Reads K opens step plan i m k None
-        k_reads i = reads_then K opens step plan i m n k None None (n_reads i) (walks.reads i)
+        pub k_reads : Reads K opens step plan l m k None
+        k_reads = reads_then K opens step plan l m n k None None n_reads (subst (λ i. Reads K opens step plan i n k None) first_local walks.reads)
 
         k_hand : k.0.part.seat.hand ≡ place_of first ∷ []
         k_hand = walks.hand ∙ ap (λ h. place_of first ∷ h) (ap (λ (p : Part View'). p.seat.hand) n_part ∙ empty.hand)
@@ -85,7 +84,7 @@ module _ {C View' Call Reply State' : Type 0} (K : ClientTerms C View' Call Repl
         k_tail = walks.tail ∙ (ap (λ (p : Part View'). p.seat.homing.tail) n_part ∙ empty.tail)
 
         k_others : Has k.0.part (place_of first) → ⊥
-        k_others has = let r = walks.reads 0 in walks.others (had_still K opens step plan n.0.part k.0.part r.under.same (place_of first) has)
+        k_others has = let r = walks.reads in walks.others (had_still K opens step plan n.0.part k.0.part r.under.same (place_of first) has)
 
         pub k_chained : IsChained plan.shape k.0.part first.locale first [] word
         k_chained = record {
@@ -105,14 +104,19 @@ module _ {C View' Call Reply State' : Type 0} (K : ClientTerms C View' Call Repl
         pub one_came : (index : ℕ) → index ≡ first.index → word ≡ 0 → Gets K opens step plan l m k (Got index)
         one_came index at none = (
           None,
-          k_reads l,
-          subst (λ p. HasOne plan.shape k.0.part p) (λ t. record { locale = first_local t; index = sym at t })
-              (record { hand = k_hand; tail = k_tail; chain = walks.chain ∙ none; inside = first_inside; others = k_others }),
+          (
+            k_reads,
+            subst (λ p. HasOne plan.shape k.0.part p) (λ t. record { locale = first_local t; index = sym at t })
+                (record { hand = k_hand; tail = k_tail; chain = walks.chain ∙ none; inside = first_inside; others = k_others }),
+            refl,
+          ),
         )
 
         pub rest_came : (top tail : Pointer) (r d : S) (result : Get) → WalksRest K opens step plan first.locale first top tail k r → Gets K opens step plan first.locale r d result → Gets K opens step plan l m d result
         rest_came top tail r d result walked got =
-            gets_then K opens step plan l m r d result None (reads_then K opens step plan l m k r None None (k_reads l) (walked.reads l)) refl (subst (λ i. Gets K opens step plan i r d result) first_local got)
+            let gets = subst (λ i. Gets K opens step plan i r d result) first_local got in
+            let reads = reads_then K opens step plan l m k r None None k_reads (subst (λ i. Reads K opens step plan i k r None) first_local walked.reads) in
+            (later None gets.0, gets_then K opens step plan l m r d result None gets.0 reads refl gets.1)
 
         pub next_came : (top : Pointer) → IsPointer top → word_of top ≡ word → IsPlace plan.shape (place_of top) × (top.locale ≡ first.locale)
         next_came top is_top same_top =

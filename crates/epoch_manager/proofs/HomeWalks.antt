@@ -22,7 +22,7 @@ use Rattle.epoch_table.specs.Numbers.{count_in}
 use Rattle.epoch_manager.specs.TakeSeats.{Has, IsSameFor, SeatOf, Reads, Waits, Walks, WalksOn, WalksRest, IsChained, places}
 use Rattle.epoch_manager.proofs.HandChains.{small_of, places-append, last-append, linked_more, each_still, each_more}
 use Rattle.epoch_manager.proofs.TakeRows.{home_walk_row, walk_waits, walk_told}
-use Rattle.epoch_manager.proofs.Takes.{under_one, reads_none, reads_then, had_still}
+use Rattle.epoch_manager.proofs.Takes.{one_of, under_one, reads_none, reads_then, had_still}
 use Rattle.epoch_manager.proofs.TokenSteps.{Goes, made_of}
 
 pub count_back : (q : Pointer) → q.count < 4294967296 → count_in (word_of q) ≡ q.count
@@ -37,7 +37,7 @@ module _ {C View' Call Reply State' : Type 0} (K : ClientTerms C View' Call Repl
   S = SeatOf K opens step plan
 
   waits_none : (m : S) (q : Pointer) → Waits K opens step plan m m q
-  waits_none m q = record { reads = λ l. reads_none K opens step plan l m; seat = refl; won = refl; counts = λ p ne. refl; nexts = λ p ne. refl }
+  waits_none m q = record { reads = reads_none K opens step plan q.locale m; seat = refl; won = refl; counts = λ p ne. refl; nexts = λ p ne. refl }
 
   pub waits_first : (m : S) (q : Pointer) → Waits K opens step plan m m q
   waits_first = waits_none
@@ -87,10 +87,16 @@ module _ {C View' Call Reply State' : Type 0} (K : ClientTerms C View' Call Repl
         (λ h. absurd (cc (h, ap (λ x. is_among x k.0.part.seat.held) same, new.held)))
         has
 
-    reads_of : (part : Part View') → Goes K opens step plan k n look [] part → IsSameFor k.0.part part → (l : ℕ) → Reads K opens step plan l m n None
-    reads_of part goes same l =
-        reads_then K opens step plan l m k n None None (was.reads l)
-        (record { looks = look; under = under_one K opens step plan k n look part goes same; unheaded = λ p. refl; head_so = refl; heads = λ i ne. refl })
+    reads_of : (part : Part View') → Goes K opens step plan k n look [] part → IsSameFor k.0.part part → Reads K opens step plan q.locale m n None
+    reads_of part goes same =
+        reads_then K opens step plan q.locale m k n None None was.reads
+        (record {
+          looks = look;
+          under = under_one K opens step plan k n look part goes same;
+          local = one_of q.locale (next_of (place_in k.0.part.seat.homing.chain)) found (ap (λ p. p.locale) place_is);
+          unheaded = λ p. refl;
+          head_so = refl;
+        })
 
     pub waits_more : found ≡ pending → Waits K opens step plan m n q
     waits_more pends =
@@ -175,7 +181,7 @@ module _ {C View' Call Reply State' : Type 0} (K : ClientTerms C View' Call Repl
           (each_still m.0.part.facts n.0.part.facts plan.shape locale (first ∷ rest) was.each (λ p h. walks.counts p (apart p h)))
           (record { local = local; pointer = is; inside = inside; count = walks.count });
       others = λ p h has.
-          let reads = walks.reads 0 in
+          let reads = walks.reads in
           let before = had_still K opens step plan m.0.part n.0.part reads.under.same p has in
           ⊎_elim
           (λ e. was.others p e before)
@@ -191,7 +197,7 @@ module _ {C View' Call Reply State' : Type 0} (K : ClientTerms C View' Call Repl
       → WalksOn K opens step plan first.locale first top top m n word
   on_first m n first top word is inside local was walks = record {
     rest = [];
-    reads = walks.reads;
+    reads = subst (λ l. Reads K opens step plan l m n None) local walks.reads;
     chained = chain_more m n first.locale first [] top word is inside local was walks;
     chain = walks.chain;
     last = refl;
@@ -204,7 +210,7 @@ module _ {C View' Call Reply State' : Type 0} (K : ClientTerms C View' Call Repl
       → Walks K opens step plan k n next found → WalksOn K opens step plan first.locale first top next m n found
   on_more m k n first top tail next word found was is inside local same walks = record {
     rest = was.rest ++ next ∷ [];
-    reads = λ l. reads_then K opens step plan l m k n None None (was.reads l) (walks.reads l);
+    reads = reads_then K opens step plan first.locale m k n None None was.reads (subst (λ l. Reads K opens step plan l k n None) local walks.reads);
     chained = chain_more k n first.locale first (top ∷ was.rest) next found is inside local (subst (IsChained plan.shape k.0.part first.locale first (top ∷ was.rest)) (sym same) was.chained) walks;
     chain = walks.chain;
     last = sym (last-append top was.rest next);

@@ -4,6 +4,7 @@ pub mod Known
 pub mod TokenSteps
 pub mod DeferralSteps
 pub mod ReturnSteps
+pub mod Marks
 pub mod ReclaimSteps
 pub mod ScanSteps
 pub mod GlobalSteps
@@ -25,6 +26,7 @@ pub mod SpotClauses
 pub mod HoldClauses
 pub mod TakeRows
 pub mod Takes
+pub mod Tours
 pub mod StackTakes
 pub mod HeaderTakes
 pub mod HomeChains

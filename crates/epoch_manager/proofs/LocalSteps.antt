@@ -13,11 +13,13 @@ use Rattle.epoch_table.specs.declared.parts.Plan.{Plan}
 use Rattle.epoch_table.specs.declared.parts.Part.{Part}
 use Rattle.epoch_table.specs.Clients.{ClientTerms}
 use Rattle.epoch_table.specs.Deeds.{deed}
+use Rattle.epoch_table.specs.Events.{items_in}
 use Rattle.epoch_table.specs.Facts.{facts_after}
 use Rattle.epoch_table.specs.Kinds.{looks_of, entry_of, entries_of_items, MayMake, Makes}
 use Rattle.epoch_manager.specs.declared.faults.NotNow.{NotNow}
 use Rattle.epoch_manager.specs.declared.faults.NotNow.TheVariants.{LocalBusy, GlobalBusy, EpochsSpent, Held}
 use Rattle.epoch_manager.specs.Reclaiming.{scanned, epoch_read, looking, reclaimed_to, global_read, local_read, IsRefusedGlobally, IsRefused, EntersGlobally, EntersReclaim}
+use Rattle.epoch_manager.proofs.Marks.{local_mark}
 use Rattle.epoch_manager.proofs.ReclaimSteps.{local_won, local_lost, local_left, local_row, leave_row}
 use Rattle.epoch_manager.proofs.TokenSteps.{Seated, Goes, Among, made_of, as_among, then_among}
 
@@ -47,11 +49,13 @@ module _ {C View' Call Reply State' : Type 0} (K : ClientTerms C View' Call Repl
     pub busy_so : m.0.part.seat.phase ≡ Registered → found ≢ 0 → EntersReclaim K opens step plan m j (Err LocalBusy)
     busy_so is ne =
         let made = made_of K opens step plan ElectLocal m j found _ (local_lost plan.shape plan.callers m.0.number m.0.part.seat m.0.part.facts found ne) elects in
+        let meets = elects.1.0.meets in
+        let one : found ≡ 1 = local_mark plan.start.count (items_in meets.0) at found meets.2 ne in
         let epoch = m.0.part.seat.reclaim.epoch in
         let scan = m.0.part.seat.reclaim.scan in
         let goes : Goes K opens step plan m j (local_read at found ∷ []) [] (reclaimed_to Registered epoch scan m.0.part) =
         subst (λ (p : Phase). Goes K opens step plan m j (local_read at found ∷ []) [] (reclaimed_to p epoch scan m.0.part)) is made in
-        (local_read at found ∷ [], [], (found, ne, refl, refl), (epoch, scan, as_among K opens step plan m j (local_read at found ∷ []) [] (reclaimed_to Registered epoch scan m.0.part) goes))
+        (local_read at found ∷ [], [], (ap (λ w. local_read at w ∷ []) one, refl), (epoch, scan, as_among K opens step plan m j (local_read at found ∷ []) [] (reclaimed_to Registered epoch scan m.0.part) goes))
 
     module _ (is : found ≡ 0) where
       abbrev claim : List (Entry (Happens Call Reply) (Unit {0}))

@@ -39,14 +39,14 @@ places_of facts (p ∷ ps) = ap (λ l. p ∷ l) (places_of facts ps)
 -- ---- what refuses it
 
 refused_cause : (shape : Shape) (c at : ℕ) (fault : NotNow) (words : List (Look WordName)) (items : List Item) → IsRefused shape c at fault words items → ReclaimCause shape at (Err fault) words
-refused_cause shape c at LocalBusy words items is = (is.0, is.1, is.2)
-refused_cause shape c at GlobalBusy words items is = let inner = is.2 in (inner.0, inner.1, is.3 ∙ ap (λ l. local_read at 0 ∷ l) inner.2)
+refused_cause shape c at LocalBusy words items is = is.0
+refused_cause shape c at GlobalBusy words items is = let inner = is.2 in is.3 ∙ ap (λ l. local_read at 0 ∷ l) inner.0
 refused_cause shape c at EpochsSpent words items is = let inner = is.2 in (inner.0, inner.1, is.3 ∙ ap (λ l. local_read at 0 ∷ l) inner.2)
 refused_cause shape c at (Held locale number word) words items is = let inner = is.2 in (inner.0, inner.1, is.3 ∙ ap (λ l. local_read at 0 ∷ l) inner.2)
 
 refused_listed : (shape : Shape) (c at : ℕ) (fault : NotNow) (words : List (Look WordName)) (items : List Item) → IsRefused shape c at fault words items → items ≡ refused_items c fault
-refused_listed shape c at LocalBusy words items is = is.3
-refused_listed shape c at GlobalBusy words items is = let inner = is.2 in is.4 ∙ ap (λ l. Claim c false ∷ (l ++ Leave c false ∷ [])) inner.3
+refused_listed shape c at LocalBusy words items is = is.1
+refused_listed shape c at GlobalBusy words items is = let inner = is.2 in is.4 ∙ ap (λ l. Claim c false ∷ (l ++ Leave c false ∷ [])) inner.1
 refused_listed shape c at EpochsSpent words items is = let inner = is.2 in is.4 ∙ ap (λ l. Claim c false ∷ (l ++ Leave c false ∷ [])) inner.3
 refused_listed shape c at (Held locale number word) words items is = let inner = is.2 in is.4 ∙ ap (λ l. Claim c false ∷ (l ++ Leave c false ∷ [])) inner.3
 

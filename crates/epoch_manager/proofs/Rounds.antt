@@ -1,12 +1,16 @@
 -- What trying locales for an object comes to, one after another.
-use Rattle.std.proofs.Common.{Option, Some, None, ◌≡◌, ◌≢◌, ◌⊎◌, ◌<◌, ◌≤◌, ◌||◌, ◌+◌, ◌++◌, ℕ, Bool, true, false, ltb, List, [], ◌∷◌, refl, ap, sym, ◌∙◌, subst, inl, inr, ⊎_elim, arith}
-use Rattle.std.proofs.lemmas.Bool.{false≢true, cases_Bool}
-use Rattle.std.specs.Prelude.{is_some}
+use Rattle.std.proofs.Common.{Option, Some, None, ◌≡◌, ◌⊎◌, ◌<◌, ◌≤◌, ◌||◌, ◌+◌, ◌-◌, ◌++◌, ℕ, Bool, true, false, List, [], ◌∷◌, refl, ap, sym, ◌∙◌, subst, inl, inr, ⊎_elim, arith}
+use Rattle.std.specs.Prelude.{is_some, not, Contains, Ok}
+use Rattle.std.specs.List.{range_with_len}
+use Rattle.std.proofs.lemmas.Bool.{false≢true}
+use Rattle.std.proofs.lemmas.Bool.Decides.{eqb_tells}
+use Rattle.std.proofs.lemmas.List.Elements.{Contains-append_left, Contains-append_right, Contains-append_cases}
 use Rattle.pass_book.specs.declared.entries.Look.{Look}
+use Rattle.pass_table.specs.Words.{AreTries}
 use Rattle.pgas_base.specs.Pointers.{Pointer}
 use Rattle.epoch_laws.specs.declared.events.EpochEvent.TheVariants.{Given}
 use Rattle.epoch_laws.specs.Needs.{event}
-use Rattle.epoch_laws.specs.Places.{place_of}
+use Rattle.epoch_laws.specs.Places.{Place, place_of}
 use Rattle.epoch_laws.specs.Seats.{is_reclaiming}
 use Rattle.epoch_laws.specs.StackSteps.{last_stack_count}
 use Rattle.epoch_laws.specs.Words.{WordName}
@@ -15,91 +19,28 @@ use Rattle.epoch_table.specs.Clients.{ClientTerms, Takes}
 use Rattle.epoch_table.specs.Kinds.{entries_of_items}
 use Rattle.epoch_manager.specs.declared.faults.TakeFault.TheVariants.{NoRoom, Spent as LastCount}
 use Rattle.epoch_manager.specs.declared.gets.Get.{Get}
-use Rattle.epoch_manager.specs.declared.gets.Get.TheVariants.{Got, Empty, Spent}
-use Rattle.epoch_manager.specs.Takes.{IsTriedFirst, later, last_header, last_head, is_spent, IsTakenHeader}
+use Rattle.epoch_manager.specs.declared.gets.Get.TheVariants.{Empty, Spent}
+use Rattle.epoch_manager.specs.Takes.{later, last_header, last_head, is_spent, IsTakenHeader, IsFreeHeader}
+use Rattle.epoch_manager.specs.Tours.{AreOf, IsGot, order_from, GoesAgain, TakeReads}
 use Rattle.epoch_manager.specs.TakeCalls.{Refuses}
-use Rattle.epoch_manager.specs.TakeSeats.{IsEmptyHanded, SeatOf, Under, Reads, Gets, GetsHead, Scans, TakesOne, Misses, MayTry, is_one, is_within}
+use Rattle.epoch_manager.specs.TakeSeats.{IsEmptyHanded, SeatOf, Under, Reads, Gets, GetsHead, Scans, TakesOne, OwnsOne, Misses, MayTry}
 use Rattle.epoch_manager.proofs.HeaderTakes.{knowing_still}
-use Rattle.epoch_manager.proofs.Takes.{headers-append, heads-append, headers_before, headers_after, unspent_later, spent_later, under_none, under_then, after_under, number_still, has_still, can_still, reads_then, gets_then}
+use Rattle.epoch_manager.proofs.Takes.{headers-append, heads-append, headers_before, headers_after, heads_before, of_both, unspent_later, spent_later, under_none, under_then, after_under, number_still, has_still, can_still, gets_then}
 use Rattle.epoch_manager.proofs.TokenSteps.{Goes}
-
-one_so : (l k : ℕ) → is_one l k ≡ true → k ≡ l
-one_so l k is = grind arith
-
-other_so : (l k : ℕ) → is_one l k ≡ false → k ≢ l
-other_so l k is = grind arith
-
-one_here : (l : ℕ) → is_one l l ≡ true
-one_here l = grind arith
+use Rattle.epoch_manager.proofs.Tours.{other_head, contains_one, contains_none, one_contained, order_below, order_has, range_more, range_split, range_ends, ranges_apart, tour_one, tour_then, no_head, no_header, got_after, got_before, tries_none, tries_more}
 
 -- of two flags
-pub either_so : (a b : Bool) → (a || b) ≡ true → (a ≡ true) ⊎ (b ≡ true)
+either_so : (a b : Bool) → (a || b) ≡ true → (a ≡ true) ⊎ (b ≡ true)
 either_so true b is = inl refl
 either_so false b is = inr is
 
-spent_some : (a : Option ℕ) → is_spent a ≡ true → is_some a ≡ true
-spent_some None is = absurd (false≢true is)
-spent_some (Some w) is = refl
+neither_so : (a b : Bool) → (a || b) ≡ false → (a ≡ false) × (b ≡ false)
+neither_so true b is = absurd (false≢true (sym is))
+neither_so false b is = (refl, is)
 
 some_first : (a b : Option ℕ) → is_some a ≡ true → is_some (later a b) ≡ true
 some_first a None is = is
 some_first a (Some w) is = refl
-
-some_second : (a b : Option ℕ) → is_some b ≡ true → is_some (later a b) ≡ true
-some_second a None is = absurd (false≢true is)
-some_second a (Some w) is = refl
-
-pub neither_so : (a b : Bool) → (a || b) ≡ false → (a ≡ false) × (b ≡ false)
-neither_so true b is = absurd (false≢true (sym is))
-neither_so false b is = (refl, is)
-
--- locales that are these and those, and none both
-pub record AreParts (first second all : ℕ → Bool) : Type 0 where
-  pub apart : (l : ℕ) → first l ≡ true → second l ≡ true → ⊥
-  pub either : (l : ℕ) → all l ≡ true → (first l ≡ true) ⊎ (second l ≡ true)
-  pub firsts : (l : ℕ) → first l ≡ true → all l ≡ true
-  pub seconds : (l : ℕ) → second l ≡ true → all l ≡ true
-
-not_so : (a b : Bool) → (a ≡ true → b ≡ true) → b ≡ false → a ≡ false
-not_so true b gives is = absurd (false≢true (sym is ∙ gives refl))
-not_so false b gives is = refl
-
-apart_so : (a b : Bool) → (a ≡ true → b ≡ true → ⊥) → a ≡ true → b ≡ false
-apart_so a true apart is = absurd (apart is refl)
-apart_so a false apart is = refl
-
--- ---- which locales
-
-pub one_more_locale : (from l : ℕ) → from ≤ l → AreParts (is_within from l) (is_one l) (is_within from (l + 1))
-one_more_locale from l low = record {
-  apart = λ k a b. grind arith;
-  either = λ k a. ⊎_elim (λ t. inr t) (λ o. inl (grind arith)) (cases_Bool (is_one l k));
-  firsts = λ k a. grind arith;
-  seconds = λ k a. grind arith;
-}
-
-pub all_locales : (first many : ℕ) → first ≤ many → AreParts (is_within first many) (is_within 0 first) (is_within 0 many)
-all_locales first many low = record {
-  apart = λ k a b. grind arith;
-  either = λ k a. ⊎_elim (λ t. inr (grind arith)) (λ o. inl (grind arith)) (cases_Bool (ltb k first));
-  firsts = λ k a. grind arith;
-  seconds = λ k a. grind arith;
-}
-
-pub first_within : (from l : ℕ) → from < l → is_within from l from ≡ true
-first_within from l low = grind arith
-
-least : (from l : ℕ) → from ≤ l → (from < l) ⊎ (from ≡ l)
-least from l low = ⊎_elim (λ t. inl (grind arith)) (λ t. inr (grind arith)) (cases_Bool (ltb from l))
-
-below_all : (l many : ℕ) → is_within 0 many l ≡ true → l < many
-below_all l many is = grind arith
-
-all_below : (l many : ℕ) → l < many → is_within 0 many l ≡ true
-all_below l many low = grind arith
-
-pub no_locale : (from l : ℕ) → is_within from from l ≡ false
-no_locale from l = grind arith
 
 module _ {C View' Call Reply State' : Type 0} (K : ClientTerms C View' Call Reply State') (opens : State' → Type 0) (step : State' → Call → Reply → State' → Type 0) (plan : Plan C) where
   abbrev S : Type 0
@@ -107,118 +48,129 @@ module _ {C View' Call Reply State' : Type 0} (K : ClientTerms C View' Call Repl
 
   -- what getting an object comes to, after the head was read
   pub head_then : (l : ℕ) (m k n : S) (result : Get) (head : Option ℕ) → Reads K opens step plan l m k head → is_spent head ≡ false → is_some head ≡ true → Gets K opens step plan l k n result → GetsHead K opens step plan l m n result
-  head_then l m k n (Got i) head a unspent some g = gets_then K opens step plan l m k n (Got i) head a unspent g
-  head_then l m k n Empty head a unspent some g =
-      (later head g.0, reads_then K opens step plan l m k n head g.0 a g.1, g.2, unspent_later head g.0 unspent g.3, some_first head g.0 some)
-  head_then l m k n Spent head a unspent some g = gets_then K opens step plan l m k n Spent head a unspent g
+  head_then l m k n result head a unspent some g = (later head g.0, some_first head g.0 some, gets_then K opens step plan l m k n result head g.0 a unspent g.1)
 
   -- ---- one locale
 
-  pub spent_misses : (l : ℕ) (m n : S) → Gets K opens step plan l m n Spent → Misses K opens step plan (is_one l) m n true false
+  pub spent_misses : (l : ℕ) (m n : S) → GetsHead K opens step plan l m n Spent → Misses K opens step plan (l ∷ []) m n true false
   spent_misses l m n g =
-      let reads = g.1 in record {
+      let reads = g.2.0 in
+      let spent : is_spent (last_head reads.looks l) ≡ true = ap is_spent reads.head_so ∙ g.2.2 in record {
         looks = reads.looks;
         under = reads.under;
-        rests = g.2;
-        spends = λ t. (l, one_here l, ap is_spent reads.head_so ∙ g.3);
-        can_spend = λ t. g.4;
+        rests = g.2.1;
+        tour =
+            tour_one plan.shape l reads.looks
+            (record { local = reads.local; head = ap is_some reads.head_so ∙ g.1; headers = λ p at inside. ap is_some (reads.unheaded p) ∙ sym (ap not spent) });
+        spends = λ t. (l, contains_one l, spent);
+        can_spend = λ t. g.2.3;
         unspent = λ f. absurd (false≢true (sym f));
-        heads = λ k off. reads.heads k (other_so l k off);
-        seen = λ k on. ap is_some (ap (last_head reads.looks) (one_so l k on) ∙ reads.head_so) ∙ spent_some g.0 g.3;
-        others = λ p off. reads.unheaded p;
+        found = λ t. absurd (false≢true t);
         taken = λ f. absurd (false≢true (sym f));
       }
 
-  pub empty_misses : (l : ℕ) (m k n : S) (free : Bool) → GetsHead K opens step plan l m k Empty → Scans K opens step plan l plan.shape.objects k n free → Misses K opens step plan (is_one l) m n false free
-  empty_misses l m k n free g scans =
-      let reads = g.1 in
+  pub empty_misses : (l : ℕ) (m k n : S) (free : Bool) → l < plan.shape.locales → GetsHead K opens step plan l m k Empty → Scans K opens step plan l plan.shape.objects k n free → Misses K opens step plan (l ∷ []) m n false free
+  empty_misses l m k n free low g scans =
+      let reads = g.2.0 in
       let xs = reads.looks in
       let ys = scans.looks in
-      let head : (i : ℕ) → last_head (xs ++ ys) i ≡ last_head xs i = λ i. heads-append xs ys i ∙ ap (later (last_head xs i)) (scans.heads i) in record {
+      let head : last_head (xs ++ ys) l ≡ g.0 = heads_before xs ys l (scans.heads l) ∙ reads.head_so in
+      let local : AreOf l (xs ++ ys) = of_both l xs ys reads.local scans.local in
+      let unspent : is_spent (last_head (xs ++ ys) l) ≡ false = ap is_spent head ∙ g.2.2 in record {
         looks = xs ++ ys;
         under = under_then K opens step plan m k n xs ys reads.under scans.under;
         rests = scans.rests;
+        tour =
+            tour_one plan.shape l (xs ++ ys)
+            (record {
+              local = local;
+              head = ap is_some head ∙ g.1;
+              headers = λ p at inside. headers_after (λ o. is_some o ≡ true) false≢true xs ys p (scans.headers p at inside.some_object inside.index) ∙ sym (ap not unspent);
+            });
         spends = λ t. absurd (false≢true t);
         can_spend = λ t. absurd (false≢true t);
-        unspent = λ f i.
-            ap is_spent (head i)
-            ∙ ⊎_elim (λ t. ap is_spent (ap (last_head xs) (one_so l i t) ∙ reads.head_so) ∙ g.3) (λ off. ap is_spent (reads.heads i (other_so l i off))) (cases_Bool (is_one l i));
-        heads = λ i off. head i ∙ reads.heads i (other_so l i off);
-        seen = λ i on. ap is_some (head i ∙ (ap (last_head xs) (one_so l i on) ∙ reads.head_so)) ∙ g.4;
-        others = λ p off. headers_before xs ys p (scans.others p (inl (other_so l p.locale off))) ∙ reads.unheaded p;
-        taken = λ f none p on inside. headers_after xs ys p (scans.taken none p (one_so l p.locale on) inside.some_object inside.index);
+        unspent = λ f i. ⊎_elim (λ e. ap (λ j. is_spent (last_head (xs ++ ys) j)) e.1 ∙ unspent) (λ e. ap is_spent (other_head l (xs ++ ys) i local e.1)) (eqb_tells i l);
+        found = λ some.
+            let one = scans.found some in
+            let p : Place = record { locale = l; index = one.0 } in
+            (p, contains_one l, record { locale = low; some_object = one.1; index = one.2 }, headers_after IsFreeHeader (λ h. h) xs ys p one.3);
+        taken = λ f none p on inside. headers_after IsTakenHeader (λ h. h) xs ys p (scans.taken none p (sym (one_contained l p.locale on)) inside.some_object inside.index);
       }
 
   -- ---- locales so far, and then others
 
-  pub misses_none : (among : ℕ → Bool) (m : S) → ((l : ℕ) → among l ≡ false) → IsEmptyHanded m.0.part → Misses K opens step plan among m m false false
-  misses_none among m nobody empty = record {
+  pub misses_none : (m : S) → IsEmptyHanded m.0.part → Misses K opens step plan [] m m false false
+  misses_none m empty = record {
     looks = [];
     under = under_none K opens step plan m;
     rests = empty;
+    tour = refl;
     spends = λ t. absurd (false≢true t);
     can_spend = λ t. absurd (false≢true t);
     unspent = λ f l. refl;
-    heads = λ l off. refl;
-    seen = λ l on. absurd (false≢true (sym (nobody l) ∙ on));
-    others = λ p off. refl;
-    taken = λ f none p on. absurd (false≢true (sym (nobody p.locale) ∙ on));
+    found = λ t. absurd (false≢true t);
+    taken = λ f none p on. absurd (contains_none p.locale on);
   }
 
   module _ (m k n : S) (a b : Bool) where
-    module _ (these those all : ℕ → Bool) (s f spent free : Bool) (was : Misses K opens step plan these m k s f) (now : Misses K opens step plan those k n a b) (parts : AreParts these those all)
-        (spent_is : spent ≡ (s || a)) (free_is : free ≡ (f || b)) where
+    module _ (one two : List ℕ) (s f : Bool) (was : Misses K opens step plan one m k s f) (now : Misses K opens step plan two k n a b) (apart : (l : ℕ) → Contains one l → Contains two l → ⊥) where
       abbrev xs : List (Look WordName)
       xs = was.looks
 
       abbrev ys : List (Look WordName)
       ys = now.looks
 
-      pub misses_then : Misses K opens step plan all m n spent free
+      pub misses_then : Misses K opens step plan (one ++ two) m n (s || a) (f || b)
       misses_then = record {
         looks = xs ++ ys;
         under = under_then K opens step plan m k n xs ys was.under now.under;
         rests = now.rests;
+        tour = tour_then plan.shape one two xs ys was.tour now.tour;
         spends = λ t.
             ⊎_elim
             (λ first.
             let l = was.spends first in
-            (l.0, parts.firsts l.0 l.1, ap is_spent (heads-append xs ys l.0 ∙ ap (later (last_head xs l.0)) (now.heads l.0 (apart_so (these l.0) (those l.0) (parts.apart l.0) l.1))) ∙ l.2))
-            (λ second. let l = now.spends second in (l.0, parts.seconds l.0 l.1, ap is_spent (heads-append xs ys l.0) ∙ spent_later (last_head xs l.0) (last_head ys l.0) l.2))
-            (either_so s a (sym spent_is ∙ t));
-        can_spend = λ t. ⊎_elim (λ first. can_still K opens step plan k n ys now.under (was.can_spend first)) (λ second. now.can_spend second) (either_so s a (sym spent_is ∙ t));
-        unspent = λ unspent l. let two = neither_so s a (sym spent_is ∙ unspent) in ap is_spent (heads-append xs ys l) ∙ unspent_later (last_head xs l) (last_head ys l) (was.unspent two.0 l) (now.unspent two.1 l);
-        heads = λ l off.
-            heads-append xs ys l
-            ∙ (ap (later (last_head xs l)) (now.heads l (not_so (those l) (all l) (parts.seconds l) off)) ∙ was.heads l (not_so (these l) (all l) (parts.firsts l) off));
-        seen = λ l on.
-            ap is_some (heads-append xs ys l)
-            ∙ ⊎_elim (λ first. some_first (last_head xs l) (last_head ys l) (was.seen l first)) (λ second. some_second (last_head xs l) (last_head ys l) (now.seen l second)) (parts.either l on);
-        others = λ p off.
-            headers_before xs ys p (now.others p (not_so (those p.locale) (all p.locale) (parts.seconds p.locale) off))
-            ∙ was.others p (not_so (these p.locale) (all p.locale) (parts.firsts p.locale) off);
-        taken = λ unspent none p on inside.
-            let spends = neither_so s a (sym spent_is ∙ unspent) in
-            let frees = neither_so f b (sym free_is ∙ none) in
+            (l.0, Contains-append_left one two l.0 l.1, ap is_spent (heads_before xs ys l.0 (no_head plan.shape two ys l.0 now.tour (apart l.0 l.1))) ∙ l.2))
+            (λ second. let l = now.spends second in (l.0, Contains-append_right one two l.0 l.1, ap is_spent (heads-append xs ys l.0) ∙ spent_later (last_head xs l.0) (last_head ys l.0) l.2))
+            (either_so s a t);
+        can_spend = λ t. ⊎_elim (λ first. can_still K opens step plan k n ys now.under (was.can_spend first)) (λ second. now.can_spend second) (either_so s a t);
+        unspent = λ unspent l. let both = neither_so s a unspent in ap is_spent (heads-append xs ys l) ∙ unspent_later (last_head xs l) (last_head ys l) (was.unspent both.0 l) (now.unspent both.1 l);
+        found = λ t.
             ⊎_elim
             (λ first.
-            subst IsTakenHeader (sym (headers_before xs ys p (now.others p (apart_so (these p.locale) (those p.locale) (parts.apart p.locale) first))))
-            (was.taken spends.0 frees.0 p first inside))
-            (λ second. headers_after xs ys p (now.taken spends.1 frees.1 p second inside))
-            (parts.either p.locale on);
+            let p = was.found first in
+            (p.0, Contains-append_left one two p.0.locale p.1, p.2, subst IsFreeHeader (sym (headers_before xs ys p.0 (no_header plan.shape two ys p.0 now.tour (apart p.0.locale p.1)))) p.3))
+            (λ second. let p = now.found second in (p.0, Contains-append_right one two p.0.locale p.1, p.2, headers_after IsFreeHeader (λ h. h) xs ys p.0 p.3))
+            (either_so f b t);
+        taken = λ unspent none p on inside.
+            let spends = neither_so s a unspent in
+            let frees = neither_so f b none in
+            ⊎_elim
+            (λ first. subst IsTakenHeader (sym (headers_before xs ys p (no_header plan.shape two ys p now.tour (apart p.locale first)))) (was.taken spends.0 frees.0 p first inside))
+            (λ second. headers_after IsTakenHeader (λ h. h) xs ys p (now.taken spends.1 frees.1 p second inside))
+            (Contains-append_cases one two p.locale on);
       }
 
-  -- an object that is taken after steps of no entry
-  pub takes_after : (first : ℕ) (m k n : S) (looks : List (Look WordName)) (q : Pointer) → Under K opens step plan m k looks → (takes : TakesOne K opens step plan k n q) → IsTriedFirst first q takes.looks ⊎ (is_some (last_head looks first) ≡ true)
-      → (all : TakesOne K opens step plan m n q) × IsTriedFirst first q all.looks
-  takes_after first m k n looks q under takes how =
-      let same = under.same in
-      let head = ap is_some (heads-append looks takes.looks first) in
-      let some : IsTriedFirst first q (looks ++ takes.looks) =
-      ⊎_elim (λ f. ⊎_elim inl (λ t. inr (head ∙ some_second (last_head looks first) (last_head takes.looks first) t)) f) (λ t. inr (head ∙ some_first (last_head looks first) (last_head takes.looks first) t)) how in (
+  -- one more locale was tried
+  pub range_misses : (from l : ℕ) (m k n : S) (s f a b : Bool) → from ≤ l → Misses K opens step plan (range_with_len from (l - from)) m k s f → Misses K opens step plan (l ∷ []) k n a b
+      → Misses K opens step plan (range_with_len from (l + 1 - from)) m n (s || a) (f || b)
+  range_misses from l m k n s f a b low was now =
+      subst (λ order. Misses K opens step plan order m n (s || a) (f || b)) (sym (range_more from l low))
+      (misses_then m k n a b (range_with_len from (l - from)) (l ∷ []) s f was now (λ i c d. range_ends from l (subst (Contains (range_with_len from (l - from))) (sym (one_contained l i d)) c)))
+
+  -- all were
+  pub round_misses : (first many : ℕ) (m k n : S) (s f a b : Bool) → Misses K opens step plan (range_with_len first (many - first)) m k s f → Misses K opens step plan (range_with_len 0 first) k n a b
+      → Misses K opens step plan (order_from first many) m n (s || a) (f || b)
+  round_misses first many m k n s f a b was now = misses_then m k n a b (range_with_len first (many - first)) (range_with_len 0 first) s f was now (λ l. ranges_apart first many l)
+
+  -- ---- an object is taken after steps of no entry
+
+  pub takes_after : (Says : List (Look WordName) → Type 0) (m k n : S) (looks : List (Look WordName)) (q : Pointer) → Under K opens step plan m k looks → (takes : TakesOne K opens step plan k n q) → Says (looks ++ takes.looks)
+      → (all : TakesOne K opens step plan m n q) × Says all.looks
+  takes_after Says m k n looks q under takes says =
+      let same = under.same in (
         record {
           looks = looks ++ takes.looks;
-          free = headers-append looks takes.looks (place_of q) ∙ ap (later (last_header looks (place_of q))) takes.free;
           goes =
               after_under K opens step plan m k n looks takes.looks (entries_of_items m.0.number (event m.0.number (Given q))) n.0.part under
               (subst (λ c. Goes K opens step plan k n takes.looks (entries_of_items c (event c (Given q))) n.0.part) (number_still K opens step plan m k looks under) takes.goes);
@@ -233,17 +185,46 @@ module _ {C View' Call Reply State' : Type 0} (K : ClientTerms C View' Call Repl
           count = takes.count;
           counts = λ p has. takes.counts p (has_still K opens step plan m.0.part k.0.part same p has) ∙ same.counts p has;
         },
-        some,
+        says,
       )
 
-  -- an object of a later locale is taken after the first was tried
-  pub range_takes : (from l : ℕ) (m k n : S) (spent free : Bool) → Misses K opens step plan (is_within from l) m k spent free → (q : Pointer) → (takes : TakesOne K opens step plan k n q) × IsTriedFirst l q takes.looks → from ≤ l
-      → (all : TakesOne K opens step plan m n q) × IsTriedFirst from q all.looks
-  range_takes from l m k n spent free was q tries low =
-      ⊎_elim
-      (λ more. takes_after from m k n was.looks q was.under tries.0 (inr (was.seen from (first_within from l more))))
-      (λ same. takes_after from m k n was.looks q was.under tries.0 (inl (subst (λ i. IsTriedFirst i q tries.0.looks) (sym same) tries.1)))
-      (least from l low)
+  abbrev pub Got : List ℕ → S → S → Pointer → Type 0
+  Got order m n q = (takes : TakesOne K opens step plan m n q) × IsGot plan.shape order q takes.looks
+
+  -- the first that was tried
+  pub got_one : (l : ℕ) (m k n : S) (head : Option ℕ) (q : Pointer) → Reads K opens step plan l m k head → is_some head ≡ true → is_spent head ≡ false → OwnsOne K opens step plan k n q → q.locale ≡ l → Got (l ∷ []) m n q
+  got_one l m k n head q reads some unspent owns at =
+      subst (λ i. Got (i ∷ []) m n q) at
+      (let here = subst (λ i. Reads K opens step plan i m k head) (sym at) reads in
+      let looks = owns.takes.looks in
+      let last : last_head (here.looks ++ looks) q.locale ≡ head = heads_before here.looks looks q.locale (owns.heads q.locale) ∙ here.head_so in
+      takes_after (IsGot plan.shape (q.locale ∷ []) q) m k n here.looks q here.under owns.takes
+      (record {
+        passed = [];
+        left = [];
+        in_order = refl;
+        before = [];
+        here = here.looks ++ looks;
+        words = refl;
+        tour = refl;
+        local = of_both q.locale here.looks looks here.local owns.local;
+        head = ap is_some last ∙ some;
+        unspent = ap is_spent last ∙ unspent;
+        free = headers-append here.looks looks (place_of q) ∙ ap (later (last_header here.looks (place_of q))) owns.free;
+      }))
+
+  -- one after others
+  pub got_later : (one two : List ℕ) (m k n : S) (s f : Bool) (q : Pointer) → Misses K opens step plan one m k s f → Got two k n q → Got (one ++ two) m n q
+  got_later one two m k n s f q was got =
+      takes_after (IsGot plan.shape (one ++ two) q) m k n was.looks q was.under got.0 (got_after plan.shape one two q was.looks got.0.looks was.tour got.1)
+
+  pub range_got : (from l to : ℕ) (m k n : S) (s f : Bool) (q : Pointer) → from ≤ l → l < to → Misses K opens step plan (range_with_len from (l - from)) m k s f → Got (l ∷ []) k n q → Got (range_with_len from (to - from)) m n q
+  range_got from l to m k n s f q low high was got =
+      let sofar = got_later (range_with_len from (l - from)) (l ∷ []) m k n s f q was got in
+      subst (λ order. Got order m n q) (sym (range_split from l to low high)) (sofar.0, got_before plan.shape (range_with_len from (l - from) ++ l ∷ []) (range_with_len (l + 1) (to - (l + 1))) q sofar.0.looks sofar.1)
+
+  pub round_got : (first many : ℕ) (m n : S) (q : Pointer) → Got (range_with_len first (many - first)) m n q → Got (order_from first many) m n q
+  round_got first many m n q got = (got.0, got_before plan.shape (range_with_len first (many - first)) (range_with_len 0 first) q got.0.looks got.1)
 
   -- the next locales may be tried
   pub may_still : (m k : S) (looks : List (Look WordName)) → Under K opens step plan m k looks → IsEmptyHanded k.0.part → MayTry K opens step plan m.0.number m.0.part → MayTry K opens step plan k.0.number k.0.part
@@ -261,48 +242,69 @@ module _ {C View' Call Reply State' : Type 0} (K : ClientTerms C View' Call Repl
 
   -- ---- rounds
 
-  -- rounds that met no last count, and got no object
-  pub record HasGone (m n : S) : Type 0 where
+  -- rounds after each of which a take goes on
+  pub record HasGone (asked : ℕ) (m n : S) : Type 0 where
     pub looks : List (Look WordName)
     pub under : Under K opens step plan m n looks
     pub rests : IsEmptyHanded n.0.part
-    pub unspent : (l : ℕ) → is_spent (last_head looks l) ≡ false
+    pub again : AreTries (GoesAgain plan.shape asked) looks
 
-  pub gone_none : (m : S) → IsEmptyHanded m.0.part → HasGone m m
-  gone_none m empty = record { looks = []; under = under_none K opens step plan m; rests = empty; unspent = λ l. refl }
+  pub gone_none : (asked : ℕ) (m : S) → IsEmptyHanded m.0.part → HasGone asked m m
+  gone_none asked m empty = record { looks = []; under = under_none K opens step plan m; rests = empty; again = tries_none (GoesAgain plan.shape asked) }
 
-  module _ (m k n : S) (was : HasGone m k) (spent free : Bool) (now : Misses K opens step plan (is_within 0 plan.shape.locales) k n spent free) where
-    abbrev all_looks : List (Look WordName)
-    all_looks = was.looks ++ now.looks
+  -- an object is got in the next
+  pub gone_takes : (asked : ℕ) (m k n : S) (q : Pointer) → HasGone asked m k → Got (order_from asked plan.shape.locales) k n q → (all : TakesOne K opens step plan m n q) × TakeReads plan.shape asked (Ok q) all.looks
+  gone_takes asked m k n q was got =
+      takes_after (TakeReads plan.shape asked (Ok q)) m k n was.looks q was.under got.0
+      (record { before = was.looks; last = got.0.looks; words = refl; again = was.again; cause = got.1 })
 
-    all_under : Under K opens step plan m n all_looks
+  module _ (asked : ℕ) (low : asked < plan.shape.locales) (m k n : S) (was : HasGone asked m k) (spent free : Bool) (now : Misses K opens step plan (order_from asked plan.shape.locales) k n spent free) where
+    all_under : Under K opens step plan m n (was.looks ++ now.looks)
     all_under = under_then K opens step plan m k n was.looks now.looks was.under now.under
 
-    all_unspent : spent ≡ false → (l : ℕ) → is_spent (last_head all_looks l) ≡ false
-    all_unspent unspent l = ap is_spent (heads-append was.looks now.looks l) ∙ unspent_later (last_head was.looks l) (last_head now.looks l) (was.unspent l) (now.unspent unspent l)
-
-    pub gone_on : spent ≡ false → HasGone m n
-    gone_on unspent = record { looks = all_looks; under = all_under; rests = now.rests; unspent = all_unspent unspent }
-
-    pub spent_refuses : (asked : ℕ) → spent ≡ true → Refuses K opens step plan asked (LastCount last_stack_count) m n
-    spent_refuses asked is =
-        let l = now.spends is in record {
-          looks = all_looks;
+    pub gone_on : spent ≡ false → free ≡ true → HasGone asked m n
+    gone_on unspent some =
+        let p = now.found some in record {
+          looks = was.looks ++ now.looks;
           under = all_under;
           rests = now.rests;
-          cause = (l.0, below_all l.0 plan.shape.locales l.1, ap is_spent (heads-append was.looks now.looks l.0) ∙ spent_later (last_head was.looks l.0) (last_head now.looks l.0) l.2);
+          again = tries_more (GoesAgain plan.shape asked) was.looks now.looks was.again (record { round = now.tour; unspent = now.unspent unspent; free = (p.0, p.2, p.3) });
+        }
+
+    pub spent_refuses : spent ≡ true → Refuses K opens step plan asked (LastCount last_stack_count) m n
+    spent_refuses is =
+        let l = now.spends is in record {
+          looks = was.looks ++ now.looks;
+          under = all_under;
+          rests = now.rests;
+          cause = record {
+            before = was.looks;
+            last = now.looks;
+            words = refl;
+            again = was.again;
+            cause = (now.tour, (l.0, order_below asked plan.shape.locales l.0 (omega arith) l.1, l.2));
+          };
           tells = refl;
           can_spend = λ count e. now.can_spend is;
         }
 
-    pub no_room_refuses : (asked : ℕ) → spent ≡ false → free ≡ false → Refuses K opens step plan asked (NoRoom asked) m n
-    no_room_refuses asked unspent none = record {
-      looks = all_looks;
+    pub no_room_refuses : spent ≡ false → free ≡ false → Refuses K opens step plan asked (NoRoom asked) m n
+    no_room_refuses unspent none = record {
+      looks = was.looks ++ now.looks;
       under = all_under;
       rests = now.rests;
       cause = record {
-        unspent = λ l low. all_unspent unspent l;
-        taken = λ p inside. headers_after was.looks now.looks p (now.taken unspent none p (all_below p.locale plan.shape.locales inside.locale) inside);
+        before = was.looks;
+        last = now.looks;
+        words = refl;
+        again = was.again;
+        cause = (
+          now.tour,
+          record {
+            unspent = λ l inside. now.unspent unspent l;
+            taken = λ p inside. now.taken unspent none p (order_has asked plan.shape.locales p.locale (omega arith) inside.locale) inside;
+          },
+        );
       };
       tells = refl;
       can_spend = λ count e. absurd cc;

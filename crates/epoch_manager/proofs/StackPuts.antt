@@ -17,13 +17,14 @@ use Rattle.epoch_table.specs.Heads.{won_after}
 use Rattle.epoch_table.specs.Kinds.{MayMake, Makes}
 use Rattle.epoch_table.specs.Knowledge.{known_words}
 use Rattle.epoch_table.specs.Numbers.{head_in}
-use Rattle.epoch_manager.specs.Takes.{is_spent, CanSpend}
-use Rattle.epoch_manager.specs.TakeSeats.{IsSameFor, IsEmptyHanded, HasOne, SeatOf, Reads, IsChained, HoldsChain, HoldsRest, GoesHome, AreOfChain, places, last_of}
+use Rattle.epoch_manager.specs.declared.gets.Get.TheVariants.{Spent}
+use Rattle.epoch_manager.specs.Takes.{is_spent}
+use Rattle.epoch_manager.specs.TakeSeats.{IsSameFor, HasOne, SeatOf, Reads, Gets, IsChained, HoldsChain, HoldsRest, GoesHome, AreOfChain, places, last_of}
 use Rattle.epoch_manager.proofs.HandChains.{last_among, of_last, leads_within, leaves_first}
 use Rattle.epoch_manager.proofs.HandHomes.{in_hand, all_known, link_part, link_reads, link_chained, may_link}
-use Rattle.epoch_manager.proofs.StackTakes.{head_here, head_else, head_same, head_other, look_part, look_reads, look_can}
+use Rattle.epoch_manager.proofs.StackTakes.{head_here, head_same, head_other, head_unspent, look_part, look_reads, look_can}
 use Rattle.epoch_manager.proofs.TakeRows.{stack_put_row, put_won, put_lost}
-use Rattle.epoch_manager.proofs.Takes.{under_one, reads_then, number_still, can_still}
+use Rattle.epoch_manager.proofs.Takes.{one_of, under_one, reads_then, number_still, can_still}
 use Rattle.epoch_manager.proofs.TokenSteps.{Goes, made_of}
 
 module _ {C View' Call Reply State' : Type 0} (K : ClientTerms C View' Call Reply State') (opens : State' → Type 0) (step : State' → Call → Reply → State' → Type 0) (plan : Plan C) where
@@ -86,14 +87,16 @@ module _ {C View' Call Reply State' : Type 0} (K : ClientTerms C View' Call Repl
     pub pa_holds : HoldsChain plan.shape a.0.part first tail
     pa_holds = record { rest = all; word = holds.word; chained = pa_chained; chain = pa_chain; last = holds.last }
 
-    pub p_spent : (n : S) → count ≡ last_stack_count → GoesHome K opens step plan a n → (o : Option ℕ) × Reads K opens step plan l m n o × IsEmptyHanded n.0.part × (is_spent o ≡ true) × CanSpend plan n.0.seen
+    pub p_spent : (n : S) → count ≡ last_stack_count → GoesHome K opens step plan l a n → Gets K opens step plan l m n Spent
     p_spent n is home =
-        let r = home.reads l in (
+        let r = home.reads in (
           Some hw,
-          reads_then K opens step plan l m a n (Some hw) None pa_reads r,
-          home.empty,
-          eq-eqb (free_count hw) last_stack_count (sym is_count ∙ is),
-          can_still K opens step plan a n r.looks r.under (look_can K opens step plan k a l hw looks holds.chained.won (sym is_count ∙ is)),
+          (
+            reads_then K opens step plan l m a n (Some hw) None pa_reads r,
+            home.empty,
+            eq-eqb (free_count hw) last_stack_count (sym is_count ∙ is),
+            can_still K opens step plan a n r.looks r.under (look_can K opens step plan k a l hw looks holds.chained.won (sym is_count ∙ is)),
+          ),
         )
 
     pub pa_may_link : MayMake K plan a.0.number (HandLink tail link) a.0.part
@@ -165,13 +168,13 @@ module _ {C View' Call Reply State' : Type 0} (K : ClientTerms C View' Call Repl
               (record {
                 looks = record { name = free_stack b.0.part.seat.stack.locale; word = found } ∷ [];
                 under = under_one K opens step plan b d _ part goes same;
+                local = one_of b.0.part.seat.stack.locale (free_stack b.0.part.seat.stack.locale) found refl;
                 unheaded = λ p. refl;
                 head_so = head_here b.0.part.seat.stack.locale found;
-                heads = λ i ne. head_else b.0.part.seat.stack.locale i found ne;
               }))
 
-          pub p_won : found ≡ free_head_word count index → index < 16777216 → (o : Option ℕ) × Reads K opens step plan l m d o × HasOne plan.shape d.0.part (place_of first)
-          p_won is small =
+          pub p_won : found ≡ free_head_word count index → index < 16777216 → count ≢ last_stack_count → (o : Option ℕ) × (Reads K opens step plan l m d o × HasOne plan.shape d.0.part (place_of first) × (is_spent o ≡ false))
+          p_won is small ne =
               let was = pb_chained in
               let won : same_head (head_in found) b.0.part.seat.stack.head ≡ true = ap (same_head (head_in found)) (ap (λ (s : Look). s.head) pb_stack) ∙ head_same found count index small is in
               let part : Part View' = record b.0.part { seat = record b.0.part.seat { hand = place_of first ∷ [] }; won = true } in
@@ -183,15 +186,18 @@ module _ {C View' Call Reply State' : Type 0} (K : ClientTerms C View' Call Repl
               (subst (λ hand. Goes K opens step plan b d read [] (record b.0.part { seat = record b.0.part.seat { hand = hand }; won = won_after b.0.part.seat (StackPut top (last_of top holds.rest)) b.0.part.won found })) left goes) in
               let one = was.each.0 in (
                 Some found,
-                put_read part goes' (record { phase = refl; token = refl; owned = refl; held = refl; reclaim = refl; client = refl; counts = λ p has. refl }),
-                subst (λ (p : Part View'). HasOne plan.shape p (place_of first)) (sym goes'.1)
-                    (record {
-                      hand = refl;
-                      tail = was.tail;
-                      chain = ap (λ (p : Part View'). p.seat.homing.chain) pb_part ∙ pa_chain;
-                      inside = one.inside;
-                      others = was.others (place_of first) (among_here (place_of first) (places all));
-                    }),
+                (
+                  put_read part goes' (record { phase = refl; token = refl; owned = refl; held = refl; reclaim = refl; client = refl; counts = λ p has. refl }),
+                  subst (λ (p : Part View'). HasOne plan.shape p (place_of first)) (sym goes'.1)
+                      (record {
+                        hand = refl;
+                        tail = was.tail;
+                        chain = ap (λ (p : Part View'). p.seat.homing.chain) pb_part ∙ pa_chain;
+                        inside = one.inside;
+                        others = was.others (place_of first) (among_here (place_of first) (places all));
+                      }),
+                  head_unspent found count index small is ne,
+                ),
               )
 
           pub p_lost : found ≢ free_head_word count index → (o : Option ℕ) × Reads K opens step plan l m d o × HoldsRest plan.shape d.0.part first top tail

@@ -16,16 +16,14 @@ use Rattle.epoch_table.specs.Facts.{IsNew, count_of, facts_after}
 use Rattle.epoch_table.specs.Kinds.{MayMake, Makes}
 use Rattle.epoch_table.specs.Numbers.{head_in}
 use Rattle.epoch_manager.specs.Takes.{last_head, is_spent, CanSpend}
-use Rattle.epoch_manager.specs.TakeSeats.{Has, IsEmptyHanded, HasOne, SeatOf, Reads}
+use Rattle.epoch_manager.specs.declared.gets.Get.TheVariants.{Got}
+use Rattle.epoch_manager.specs.TakeSeats.{Has, IsEmptyHanded, SeatOf, Reads, GetsHead}
 use Rattle.epoch_manager.proofs.TakeRows.{stack_look_row, stack_next_row, stack_pop_row, stack_look_told, stack_next_told, pop_won, pop_lost}
-use Rattle.epoch_manager.proofs.Takes.{under_one, reads_then}
+use Rattle.epoch_manager.proofs.Takes.{one_of, under_one, reads_then}
 use Rattle.epoch_manager.proofs.TokenSteps.{Goes, made_of}
 
 pub head_here : (l word : ℕ) → last_head (record { name = free_stack l; word = word } ∷ []) l ≡ Some word
 head_here l word = rw (eq-eqb l l refl) refl
-
-pub head_else : (l k word : ℕ) → k ≢ l → last_head (record { name = free_stack l; word = word } ∷ []) k ≡ None
-head_else l k word ne = rw (ne_eqb l k (λ e. ne (sym e))) refl
 
 -- a head's word is that of its count and its index
 head_word : (w : ℕ) → w ≡ free_head_word (free_count w) (free_index w)
@@ -36,6 +34,9 @@ head_same found count index low is =
     let a : free_count found ≡ count = omega arith in
     let b : free_index found ≡ index = omega arith in
     rw (eq-eqb (free_count found) count a, eq-eqb (free_index found) index b) refl
+
+pub head_unspent : (found count index : ℕ) → index < 16777216 → found ≡ free_head_word count index → count ≢ last_stack_count → is_spent (Some found) ≡ false
+head_unspent found count index low is ne = let a : free_count found ≡ count = omega arith in ne_eqb (free_count found) last_stack_count (λ e. ne (sym a ∙ e))
 
 both_true : (a b : Bool) → (a && b) ≡ true → (a ≡ true) × (b ≡ true)
 both_true true true h = (refl, refl)
@@ -76,9 +77,9 @@ module _ {C View' Call Reply State' : Type 0} (K : ClientTerms C View' Call Repl
       under =
           under_one K opens step plan m n (record { name = free_stack l; word = found } ∷ []) (looked_part l found m.0.part) look_goes
           (record { phase = refl; token = refl; owned = refl; held = refl; reclaim = refl; client = refl; counts = λ p has. refl });
+      local = one_of l (free_stack l) found refl;
       unheaded = λ p. refl;
       head_so = head_here l found;
-      heads = λ k ne. head_else l k found ne;
     }
 
     pub look_empty : IsEmptyHanded m.0.part → IsEmptyHanded n.0.part
@@ -108,15 +109,15 @@ module _ {C View' Call Reply State' : Type 0} (K : ClientTerms C View' Call Repl
     pub next_is : n.0.part ≡ next_part found m.0.part
     next_is = next_goes.1
 
-    pub next_reads : (l : ℕ) → Reads K opens step plan l m n None
-    next_reads l = record {
+    pub next_reads : (l : ℕ) → m.0.part.seat.stack.locale ≡ l → Reads K opens step plan l m n None
+    next_reads l at = record {
       looks = record { name = next_of (looked_top m.0.part.seat.stack); word = found } ∷ [];
       under =
           under_one K opens step plan m n _ (next_part found m.0.part) next_goes
           (record { phase = refl; token = refl; owned = refl; held = refl; reclaim = refl; client = refl; counts = λ p has. refl });
+      local = one_of l (next_of (looked_top m.0.part.seat.stack)) found at;
       unheaded = λ p. refl;
       head_so = refl;
-      heads = λ k ne. refl;
     }
 
   -- ---- the exchange of the head
@@ -153,9 +154,9 @@ module _ {C View' Call Reply State' : Type 0} (K : ClientTerms C View' Call Repl
           record {
             looks = record { name = free_stack m.0.part.seat.stack.locale; word = found } ∷ [];
             under = under_one K opens step plan m n _ (popped_part found true m.0.part) goes' (record { phase = refl; token = refl; owned = refl; held = refl; reclaim = refl; client = refl; counts = counts_popped });
+            local = one_of m.0.part.seat.stack.locale (free_stack m.0.part.seat.stack.locale) found refl;
             unheaded = λ p. refl;
             head_so = head_here m.0.part.seat.stack.locale found;
-            heads = λ k ne. head_else m.0.part.seat.stack.locale k found ne;
           },
           goes'.1,
         )
@@ -168,9 +169,9 @@ module _ {C View' Call Reply State' : Type 0} (K : ClientTerms C View' Call Repl
           record {
             looks = record { name = free_stack m.0.part.seat.stack.locale; word = found } ∷ [];
             under = under_one K opens step plan m n _ (unpopped_part found m.0.part.won m.0.part) goes' (record { phase = refl; token = refl; owned = refl; held = refl; reclaim = refl; client = refl; counts = counts_popped });
+            local = one_of m.0.part.seat.stack.locale (free_stack m.0.part.seat.stack.locale) found refl;
             unheaded = λ p. refl;
             head_so = head_here m.0.part.seat.stack.locale found;
-            heads = λ k ne. head_else m.0.part.seat.stack.locale k found ne;
           },
           goes'.1,
         )
@@ -199,7 +200,7 @@ module _ {C View' Call Reply State' : Type 0} (K : ClientTerms C View' Call Repl
       some_index e = some (is_index ∙ e)
 
       pub b_reads : Reads K opens step plan l m b (Some head)
-      b_reads = reads_then K opens step plan l m a b (Some head) None a_reads (next_reads a b next reads l)
+      b_reads = reads_then K opens step plan l m a b (Some head) None a_reads (next_reads a b next reads l (ap (λ x. x.locale) a_stack))
 
       pub b_stack : b.0.part.seat.stack ≡ record { phase = NextRead; locale = l; head = record { count = count; index = index }; next = next }
       b_stack =
@@ -234,20 +235,24 @@ module _ {C View' Call Reply State' : Type 0} (K : ClientTerms C View' Call Repl
         head_b : b.0.part.seat.stack.head ≡ record { count = count; index = index }
         head_b = ap (λ x. x.head) b_stack
 
-        pub d_won : found ≡ free_head_word count index → index < 16777216 → (h' : Option ℕ) × Reads K opens step plan l m d h' × HasOne plan.shape d.0.part top
-        d_won is small =
+        pub d_won : found ≡ free_head_word count index → index < 16777216 → count ≢ last_stack_count → GetsHead K opens step plan l m d (Got index)
+        d_won is small ne =
             let won : same_head (head_in found) b.0.part.seat.stack.head ≡ true = ap (same_head (head_in found)) head_b ∙ head_same found count index small is in
             let pops = popped_so b d found tries top_new won in
             let reads' : Reads K opens step plan l b d (Some found) = subst (λ x. Reads K opens step plan x b d (Some found)) at_l pops.0 in (
               Some found,
-              reads_then K opens step plan l m b d (Some head) (Some found) b_reads reads',
-              record {
-                hand = ap (λ (p : Part View'). p.seat.hand) pops.1 ∙ ap₂ (λ p hand. p ∷ hand) (ap looked_top b_stack) b_empty.hand;
-                tail = ap (λ (p : Part View'). p.seat.homing.tail) pops.1 ∙ b_empty.tail;
-                chain = ap (λ (p : Part View'). p.seat.homing.chain) pops.1 ∙ b_empty.chain;
-                inside = top_inside;
-                others = λ has. top_new (subst (Has b.0.part) (sym (ap looked_top b_stack)) (subst (λ (p : Part View'). Has p top) pops.1 has));
-              },
+              refl,
+              (
+                reads_then K opens step plan l m b d (Some head) (Some found) b_reads reads',
+                record {
+                  hand = ap (λ (p : Part View'). p.seat.hand) pops.1 ∙ ap₂ (λ p hand. p ∷ hand) (ap looked_top b_stack) b_empty.hand;
+                  tail = ap (λ (p : Part View'). p.seat.homing.tail) pops.1 ∙ b_empty.tail;
+                  chain = ap (λ (p : Part View'). p.seat.homing.chain) pops.1 ∙ b_empty.chain;
+                  inside = top_inside;
+                  others = λ has. top_new (subst (Has b.0.part) (sym (ap looked_top b_stack)) (subst (λ (p : Part View'). Has p top) pops.1 has));
+                },
+                head_unspent found count index small is ne,
+              ),
             )
 
         pub d_lost : found ≢ free_head_word count index → (h' : Option ℕ) × Reads K opens step plan l m d h' × IsEmptyHanded d.0.part

@@ -1,5 +1,5 @@
 -- What the clauses of a take say.
-use Rattle.std.proofs.Common.{◌≡◌, ◌&&◌, ◌==◌, ℕ, Bool, true, false, List, [], ◌∷◌, Result, Ok, Err, map, refl, ap, ap₂, sym, ◌∙◌, subst, inl, inr, ⊎_elim, arith}
+use Rattle.std.proofs.Common.{◌≡◌, ◌&&◌, ◌==◌, ℕ, Bool, true, false, List, [], ◌∷◌, ◌++◌, Result, Ok, Err, map, refl, ap, ap₂, sym, ◌∙◌, subst, inl, inr, ⊎_elim, arith}
 use Rattle.std.specs.Prelude.{is_some, is_none, not, unwrap_or}
 use Rattle.std.proofs.lemmas.Bool.{false≢true}
 use Rattle.pass_book.specs.declared.entries.Look.{Look}
@@ -21,8 +21,9 @@ use Rattle.epoch_manager.specs.declared.phases.Phase.{Phase}
 use Rattle.epoch_manager.specs.declared.phases.Phase.TheVariants.{Idle, Registered, Pinned}
 use Rattle.epoch_manager.specs.Fits.{is_nil, is_idle, is_registered, is_pinned, stands_as, is_done, is_place, are_known, may_hold, PassFits}
 use Rattle.epoch_manager.specs.Managers.{pointer_of, pointers}
-use Rattle.epoch_manager.specs.TakeCalls.{owned_then, knows_then, IsInside, TakeReads, IsTold, Refuses, TakesSeat}
-use Rattle.epoch_manager.specs.Takes.{TakeCause, CanSpend, taken_items}
+use Rattle.epoch_manager.specs.TakeCalls.{owned_then, knows_then, IsInside, IsTold, Refuses, TakesSeat}
+use Rattle.epoch_manager.specs.Takes.{CanSpend, taken_items}
+use Rattle.epoch_manager.specs.Tours.{TakeCause, TakeReads}
 use Rattle.epoch_manager.specs.TakeSeats.{IsKnowing, IsEmptyHanded, TakesOne, MayTry}
 use Rattle.epoch_manager.proofs.HoldClauses.{known_one}
 use Rattle.epoch_manager.proofs.Known.{both, and_so, some_so, so_place, known_agree, pointers_agree}
@@ -34,6 +35,10 @@ use Rattle.epoch_manager.proofs.TokenSteps.{Seated, Goes}
 places_back : (facts : Facts) (places : List Place) → map place_of (pointers facts places) ≡ places
 places_back facts [] = refl
 places_back facts (p ∷ places) = ap (λ l. p ∷ l) (places_back facts places)
+
+last_empty : {A : Type 0} (xs ys : List A) → xs ++ ys ≡ [] → ys ≡ []
+last_empty [] ys none = none
+last_empty (x ∷ xs) ys none = absurd cc
 
 zero_so : (n : ℕ) → (n == 0) ≡ true → n ≡ 0
 zero_so n is = grind arith
@@ -122,12 +127,14 @@ module _ {C View' Call Reply State' : Type 0} (K : ClientTerms C View' Call Repl
 
       -- none was
       module _ (shaped : IsShape plan.shape) (asked : ℕ) (fault : TakeFault) (refuses : Refuses K opens step plan asked fault m n) where
-        some_read : (f : TakeFault) → TakeCause plan.shape f [] → ⊥
-        some_read (NoRoom l) cause = cause.taken (record { locale = 0; index = 1 }) (let ls = shaped.0.0 in let os = shaped.2.0 in record { locale = omega arith; some_object = omega arith; index = omega arith })
-        some_read (Spent count) cause = false≢true cause.2
+        some_read : (f : TakeFault) → TakeCause plan.shape asked (Err f) [] → ⊥
+        some_read (NoRoom l) cause = cause.1.taken (record { locale = 0; index = 1 }) (let ls = shaped.0.0 in let os = shaped.2.0 in record { locale = omega arith; some_object = omega arith; index = omega arith })
+        some_read (Spent count) cause = false≢true cause.1.2
 
         refused_goes : Goes K opens step plan m n refuses.looks [] now
-        refused_goes = ⊎_elim (λ t. absurd (some_read fault (subst (TakeCause plan.shape fault) t.1 refuses.cause))) (λ t. t) refuses.under.so
+        refused_goes =
+            let cause = refuses.cause in
+            ⊎_elim (λ t. absurd (some_read fault (subst (TakeCause plan.shape asked (Err fault)) (last_empty cause.before cause.last (sym cause.words ∙ t.1)) cause.cause))) (λ t. t) refuses.under.so
 
         refused_done : Done K opens step plan m n refuses.looks [] now phase
         refused_done =
@@ -163,7 +170,7 @@ module _ {C View' Call Reply State' : Type 0} (K : ClientTerms C View' Call Repl
         take_done (Err fault) refuses = refused_done shaped asked fault refuses
 
         pub take_reads : (result : Result Pointer TakeFault) (takes : TakesSeat K opens step plan asked m n result) → TakeReads plan.shape asked result (words_of asked result takes)
-        take_reads (Ok q) takes = (takes.0.free, takes.1)
+        take_reads (Ok q) takes = takes.1
         take_reads (Err fault) refuses = refuses.cause
 
         pub take_owned : (result : Result Pointer TakeFault) → TakesSeat K opens step plan asked m n result → pointers now.facts now.seat.owned ≡ owned_then (pointers was.facts was.seat.owned) result

@@ -2,6 +2,7 @@
 use Rattle.std.proofs.Common.{◌≡◌, ◌⊎◌, ◌+◌, ◌++◌, ℕ, true, false, List, [], ◌∷◌, Option, Some, None, refl, ap, sym, ◌∙◌, subst, inl, inr, ⊎_elim, arith}
 use Rattle.std.proofs.lemmas.Bool.{false≢true}
 use Rattle.std.proofs.lemmas.List.{append-nil}
+use Rattle.std.proofs.lemmas.List.Elements.{All-nil, All-cons, All-append}
 use mathlib.Core.List.{IsPrefix}
 use Rattle.pass_book.specs.declared.entries.Entry.{Entry}
 use Rattle.pass_book.specs.declared.entries.Look.{Look}
@@ -17,10 +18,11 @@ use Rattle.epoch_table.specs.Events.{PastOpens, PastSteps, items_in}
 use Rattle.epoch_table.specs.Heads.{givens}
 use Rattle.epoch_table.specs.Rule.{manager_terms, is_between}
 use Rattle.epoch_table.proofs.Heads.{givens_then}
-use Rattle.epoch_manager.specs.Takes.{header_read, head_read, later, last_header, last_head, is_spent, IsTakenHeader, CanSpend}
+use Rattle.epoch_manager.specs.Takes.{header_read, head_read, later, last_header, last_head, is_spent, CanSpend}
+use Rattle.epoch_manager.specs.Tours.{IsOf, AreOf}
 use Rattle.epoch_manager.specs.declared.gets.Get.{Get}
 use Rattle.epoch_manager.specs.declared.gets.Get.TheVariants.{Got, Empty, Spent}
-use Rattle.epoch_manager.specs.TakeSeats.{Has, IsSameFor, SeatOf, Under, Reads, Gets}
+use Rattle.epoch_manager.specs.TakeSeats.{Has, IsSameFor, SeatOf, Under, Reads, GetsBy}
 use Rattle.epoch_manager.proofs.TokenSteps.{Goes, then_goes}
 
 -- ---- words
@@ -54,12 +56,26 @@ spent_later a (Some w) y = y
 pub headers_before : (xs ys : List (Look WordName)) (p : Place) → last_header ys p ≡ None → last_header (xs ++ ys) p ≡ last_header xs p
 headers_before xs ys p none = headers-append xs ys p ∙ ap (later (last_header xs p)) none
 
-pub headers_after : (xs ys : List (Look WordName)) (p : Place) → IsTakenHeader (last_header ys p) → IsTakenHeader (last_header (xs ++ ys) p)
-headers_after xs ys p is = subst IsTakenHeader (sym (headers-append xs ys p)) (go (last_header xs p) (last_header ys p) is)
+pub headers_after : (P : Option ℕ → Type 0) → (P None → ⊥) → (xs ys : List (Look WordName)) (p : Place) → P (last_header ys p) → P (last_header (xs ++ ys) p)
+headers_after P none xs ys p is = subst P (sym (headers-append xs ys p)) (go (last_header xs p) (last_header ys p) is)
   where
-    go : (a b : Option ℕ) → IsTakenHeader b → IsTakenHeader (later a b)
-    go a None h = absurd h
+    go : (a b : Option ℕ) → P b → P (later a b)
+    go a None h = absurd (none h)
     go a (Some w) h = h
+
+pub heads_before : (xs ys : List (Look WordName)) (l : ℕ) → last_head ys l ≡ None → last_head (xs ++ ys) l ≡ last_head xs l
+heads_before xs ys l none = heads-append xs ys l ∙ ap (later (last_head xs l)) none
+
+-- ---- words of one locale
+
+pub none_of : (l : ℕ) → AreOf l []
+none_of l = All-nil (λ (look : Look WordName). IsOf l look.name)
+
+pub one_of : (l : ℕ) (name : WordName) (word : ℕ) → IsOf l name → AreOf l (record { name = name; word = word } ∷ [])
+one_of l name word is = All-cons (λ (look : Look WordName). IsOf l look.name) (record { name = name; word = word }) [] is (none_of l)
+
+pub of_both : (l : ℕ) (xs ys : List (Look WordName)) → AreOf l xs → AreOf l ys → AreOf l (xs ++ ys)
+of_both l xs ys a b = All-append (λ (look : Look WordName). IsOf l look.name) xs ys a b
 
 -- ---- items
 
@@ -157,19 +173,19 @@ module _ {C View' Call Reply State' : Type 0} (K : ClientTerms C View' Call Repl
   -- ---- words that tell nothing of headers
 
   pub reads_none : (l : ℕ) (m : S) → Reads K opens step plan l m m None
-  reads_none l m = record { looks = []; under = under_none m; unheaded = λ p. refl; head_so = refl; heads = λ k ne. refl }
+  reads_none l m = record { looks = []; under = under_none m; local = none_of l; unheaded = λ p. refl; head_so = refl }
 
   pub reads_then : (l : ℕ) (m k n : S) (a b : Option ℕ) → Reads K opens step plan l m k a → Reads K opens step plan l k n b → Reads K opens step plan l m n (later a b)
   reads_then l m k n x y a b = record {
     looks = a.looks ++ b.looks;
     under = under_then m k n a.looks b.looks a.under b.under;
+    local = of_both l a.looks b.looks a.local b.local;
     unheaded = λ p. headers_before a.looks b.looks p (b.unheaded p) ∙ a.unheaded p;
     head_so = heads-append a.looks b.looks l ∙ (ap (λ h. later h (last_head b.looks l)) a.head_so ∙ ap (later x) b.head_so);
-    heads = λ i ne. heads-append a.looks b.looks i ∙ (ap (λ h. later h (last_head b.looks i)) (a.heads i ne) ∙ ap (later None) (b.heads i ne));
   }
 
   -- what getting an object comes to, after other steps that met no last count
-  pub gets_then : (l : ℕ) (m k n : S) (result : Get) (head : Option ℕ) → Reads K opens step plan l m k head → is_spent head ≡ false → Gets K opens step plan l k n result → Gets K opens step plan l m n result
-  gets_then l m k n (Got i) head a unspent g = (later head g.0, reads_then l m k n head g.0 a g.1, g.2)
-  gets_then l m k n Empty head a unspent g = (later head g.0, reads_then l m k n head g.0 a g.1, g.2, unspent_later head g.0 unspent g.3)
-  gets_then l m k n Spent head a unspent g = (later head g.0, reads_then l m k n head g.0 a g.1, g.2, spent_later head g.0 g.3, g.4)
+  pub gets_then : (l : ℕ) (m k n : S) (result : Get) (head last : Option ℕ) → Reads K opens step plan l m k head → is_spent head ≡ false → GetsBy K opens step plan last l k n result → GetsBy K opens step plan (later head last) l m n result
+  gets_then l m k n (Got i) head last a unspent g = (reads_then l m k n head last a g.0, g.1, unspent_later head last unspent g.2)
+  gets_then l m k n Empty head last a unspent g = (reads_then l m k n head last a g.0, g.1, unspent_later head last unspent g.2)
+  gets_then l m k n Spent head last a unspent g = (reads_then l m k n head last a g.0, g.1, spent_later head last g.2, g.3)

@@ -15,6 +15,7 @@ pub mod SpotCalls
 pub mod HeldNumbers
 pub mod HoldCalls
 pub mod Takes
+pub mod Tours
 pub mod TakeSeats
 pub mod HomeChains
 pub mod Gathering

@@ -1,5 +1,5 @@
 -- What a reclaim lists and reads.
-use Rattle.std.specs.Prelude.{◌≡◌, ◌≢◌, ◌+◌, ◌*◌, ◌<◌, ◌++◌, ℕ, true, false, List, [], ◌∷◌, length, Result, Ok, Err}
+use Rattle.std.specs.Prelude.{◌≡◌, ◌+◌, ◌*◌, ◌<◌, ◌++◌, ℕ, true, false, List, [], ◌∷◌, length, Result, Ok, Err}
 use Rattle.pass_book.specs.declared.entries.Look.{Look}
 use Rattle.pgas_base.specs.declared.shapes.Shape.{Shape}
 use Rattle.pgas_base.specs.Pointers.{Pointer}
@@ -19,14 +19,14 @@ use Rattle.epoch_manager.specs.Reclaiming.{ArePassed, local_read, global_read, e
 use Rattle.epoch_manager.specs.Releasing.{reclaim_items, frees_after}
 
 -- The words of a reclaim of a locale. One that is done has won both elections, read the epoch before, which wasn't the last, and then of every token a word
--- that doesn't stop it. One that is refused has read another caller's election, or the last epoch, or a word that stops it
+-- that doesn't stop it. One that is refused has read 1, another caller's mark, in an election, or the last epoch, or a word that stops it
 abbrev pub ReclaimCause : Shape → ℕ → Result Advanced NotNow → List (Look WordName) → Type 0
 ReclaimCause shape at (Ok reclaimed) words =
     (epoch : ℕ) × (reclaimed.epoch ≡ epoch + 1) × (epoch < last_epoch)
     × ((passed : List (Look WordName)) × (more : List (Look WordName)) × ArePassed shape.tokens epoch (shape.locales * shape.tokens) passed
     × (words ≡ local_read at 0 ∷ global_read 0 ∷ epoch_read epoch ∷ (passed ++ more)))
-ReclaimCause shape at (Err LocalBusy) words = (word : ℕ) × (word ≢ 0) × (words ≡ local_read at word ∷ [])
-ReclaimCause shape at (Err GlobalBusy) words = (word : ℕ) × (word ≢ 0) × (words ≡ local_read at 0 ∷ global_read word ∷ [])
+ReclaimCause shape at (Err LocalBusy) words = words ≡ local_read at 1 ∷ []
+ReclaimCause shape at (Err GlobalBusy) words = words ≡ local_read at 0 ∷ global_read 1 ∷ []
 ReclaimCause shape at (Err fault) words = (rest : List (Look WordName)) × IsRefusedBy shape fault rest × (words ≡ local_read at 0 ∷ global_read 0 ∷ rest)
 
 -- a refused reclaim leaves the elections that it had won

@@ -1,5 +1,5 @@
 -- What a reclaim reads of the tokens.
-use Rattle.std.specs.Prelude.{◌≡◌, ◌≢◌, ◌⊎◌, ◌<◌, ℕ, ◌*◌, ◌/◌, ◌%◌, true, false, List, [], ◌∷◌, ◌++◌, length, slice_get, Option, Some, None, Result, Ok, Err}
+use Rattle.std.specs.Prelude.{◌≡◌, ◌⊎◌, ◌<◌, ℕ, ◌*◌, ◌/◌, ◌%◌, true, false, List, [], ◌∷◌, ◌++◌, length, slice_get, Option, Some, None, Result, Ok, Err}
 use Rattle.atomic_table.specs.Table.{Me}
 use Rattle.pass_book.specs.declared.entries.Look.{Look}
 use Rattle.pgas_base.specs.declared.shapes.Shape.{Shape}
@@ -76,7 +76,7 @@ IsRefusedBy shape GlobalBusy words = ⊥
 
 -- the same, or that of the global election, and what is listed
 abbrev pub IsRefusedGlobally : Shape → ℕ → NotNow → List (Look WordName) → List Item → Type 0
-IsRefusedGlobally shape c GlobalBusy words items = (word : ℕ) × (word ≢ 0) × (words ≡ global_read word ∷ []) × (items ≡ [])
+IsRefusedGlobally shape c GlobalBusy words items = (words ≡ global_read 1 ∷ []) × (items ≡ [])
 IsRefusedGlobally shape c fault words items = (rest : List (Look WordName)) × IsRefusedBy shape fault rest × (words ≡ global_read 0 ∷ rest) × (items ≡ Claim c true ∷ Leave c true ∷ [])
 
 abbrev pub stopped : {View' : Type 0} → Part View' → Part View'
@@ -98,7 +98,7 @@ local_read locale word = record { name = local_election locale; word = word }
 
 -- the words and items of a refused reclaim of this locale
 abbrev pub IsRefused : Shape → ℕ → ℕ → NotNow → List (Look WordName) → List Item → Type 0
-IsRefused shape c locale LocalBusy words items = (word : ℕ) × (word ≢ 0) × (words ≡ local_read locale word ∷ []) × (items ≡ [])
+IsRefused shape c locale LocalBusy words items = (words ≡ local_read locale 1 ∷ []) × (items ≡ [])
 IsRefused shape c locale fault words items =
     (rest : List (Look WordName)) × (between : List Item) × IsRefusedGlobally shape c fault rest between × (words ≡ local_read locale 0 ∷ rest) × (items ≡ Claim c false ∷ (between ++ Leave c false ∷ []))
 

@@ -1,10 +1,8 @@
 -- What a take does to its pass, by its answer.
-use Rattle.std.specs.Prelude.{◌≡◌, ℕ, List, ◌∷◌, Some, Result, Ok, Err}
+use Rattle.std.specs.Prelude.{◌≡◌, ℕ, List, ◌∷◌, Result, Ok, Err}
 use Rattle.pass_book.specs.declared.entries.Look.{Look}
 use Rattle.pgas_base.specs.declared.shapes.Shape.{Shape}
 use Rattle.pgas_base.specs.Pointers.{Pointer}
-use Rattle.pool_core.specs.Headers.{header_word}
-use Rattle.pool_core.specs.declared.headers.State.TheVariants.{Free}
 use Rattle.epoch_laws.specs.Places.{place_of}
 use Rattle.epoch_laws.specs.States.{IsPlace}
 use Rattle.epoch_laws.specs.Words.{WordName}
@@ -12,7 +10,8 @@ use Rattle.epoch_table.specs.declared.parts.Plan.{Plan}
 use Rattle.epoch_table.specs.Clients.{ClientTerms, Takes}
 use Rattle.epoch_manager.specs.declared.faults.TakeFault.{TakeFault}
 use Rattle.epoch_manager.specs.declared.faults.TakeFault.TheVariants.{Spent}
-use Rattle.epoch_manager.specs.Takes.{IsTriedFirst, last_header, TakeCause, TakeTells, CanSpend}
+use Rattle.epoch_manager.specs.Takes.{TakeTells, CanSpend}
+use Rattle.epoch_manager.specs.Tours.{TakeReads}
 use Rattle.epoch_manager.specs.TakeSeats.{SeatOf, Under, IsEmptyHanded, TakesOne}
 
 -- the objects owned afterwards
@@ -24,12 +23,6 @@ owned_then old (Err fault) = old
 abbrev pub IsInside : Shape → Result Pointer TakeFault → Type 0
 IsInside shape (Ok q) = IsPlace shape (place_of q)
 IsInside shape (Err fault) = Unit {0}
-
--- The words that were read are the cause: of an object that is given the header said last that it is free, in this use, and the locale
--- that was asked for was tried first
-abbrev pub TakeReads : Shape → ℕ → Result Pointer TakeFault → List (Look WordName) → Type 0
-TakeReads shape asked (Ok q) looks = (last_header looks (place_of q) ≡ Some (header_word q.count Free)) × IsTriedFirst asked q looks
-TakeReads shape asked (Err fault) looks = TakeCause shape fault looks
 
 -- a refusal tells the locale that was asked for, or the last count
 abbrev pub IsTold : ℕ → Result Pointer TakeFault → Type 0
@@ -48,10 +41,10 @@ module _ {C View' Call Reply State' : Type 0} (K : ClientTerms C View' Call Repl
       pub looks : List (Look WordName)
       pub under : Under K opens step plan m n looks
       pub rests : IsEmptyHanded n.0.part
-      pub cause : TakeCause plan.shape fault looks
+      pub cause : TakeReads plan.shape asked (Err fault) looks
       pub tells : TakeTells asked fault
       pub can_spend : (count : ℕ) → fault ≡ Spent count → CanSpend plan n.0.seen
 
     abbrev pub TakesSeat : ℕ → SeatOf K opens step plan → SeatOf K opens step plan → Result Pointer TakeFault → Type 0
-    TakesSeat asked m n (Ok q) = (takes : TakesOne K opens step plan m n q) × IsTriedFirst asked q takes.looks
+    TakesSeat asked m n (Ok q) = (takes : TakesOne K opens step plan m n q) × TakeReads plan.shape asked (Ok q) takes.looks
     TakesSeat asked m n (Err fault) = Refuses asked fault m n

@@ -1,5 +1,5 @@
 -- What the steps of a take do to its caller's seat.
-use Rattle.std.specs.Prelude.{◌≡◌, ◌≢◌, ◌⊎◌, ◌<◌, ◌≤◌, ◌==◌, ◌&&◌, ℕ, Bool, true, false, not, ltb, is_some, List, [], ◌∷◌, ◌++◌, length, map, Option, Some, None}
+use Rattle.std.specs.Prelude.{◌≡◌, ◌≢◌, ◌⊎◌, ◌<◌, ◌≤◌, ℕ, Bool, true, false, is_some, Contains, List, [], ◌∷◌, ◌++◌, length, map, Option, Some, None}
 use Rattle.atomic_table.specs.Table.{Me}
 use Rattle.pass_book.specs.declared.entries.Look.{Look}
 use Rattle.pgas_base.specs.declared.shapes.Shape.{Shape}
@@ -28,7 +28,8 @@ use Rattle.epoch_manager.specs.declared.gets.Get.{Get}
 use Rattle.epoch_manager.specs.declared.gets.Get.TheVariants.{Got, Empty, Spent}
 use Rattle.epoch_manager.specs.declared.gets.Tried.{Tried}
 use Rattle.epoch_manager.specs.declared.gets.Tried.TheVariants.{Taken, Missed}
-use Rattle.epoch_manager.specs.Takes.{IsTriedFirst, last_header, last_head, is_spent, IsTakenHeader, CanSpend}
+use Rattle.epoch_manager.specs.Takes.{last_header, last_head, is_spent, IsTakenHeader, IsFreeHeader, CanSpend}
+use Rattle.epoch_manager.specs.Tours.{AreOf, IsTour, IsGot}
 
 -- the pass owns or holds the object
 abbrev pub Has : {View' : Type 0} → Part View' → Place → Type 0
@@ -128,38 +129,41 @@ module _ {C View' Call Reply State' : Type 0} (K : ClientTerms C View' Call Repl
     pub so : ((n ≡ m) × (looks ≡ [])) ⊎ GoesTo (manager_terms K) (PastOpens opens) (PastSteps step) plan m n looks [] n.0.part m.1
     pub same : IsSameFor m.0.part n.0.part
 
-  -- they read no header, and no head but this locale's, which was read last as this
+  -- they read words of this locale alone, no header, and the head of its stack last as this
   pub record Reads (locale : ℕ) (m n : SeatOf) (head : Option ℕ) : Type 0 where
     pub looks : List (Look WordName)
     pub under : Under m n looks
+    pub local : AreOf locale looks
     pub unheaded : (p : Place) → last_header looks p ≡ None
     pub head_so : last_head looks locale ≡ head
-    pub heads : (l : ℕ) → l ≢ locale → last_head looks l ≡ None
 
-  -- what getting an object of a locale into the hand comes to
+  -- what getting an object of a locale into the hand comes to, where the head of its stack was read last as this
+  abbrev pub GetsBy : Option ℕ → ℕ → SeatOf → SeatOf → Get → Type 0
+  GetsBy head locale m n (Got index) = Reads locale m n head × HasOne plan.shape n.0.part (record { locale = locale; index = index }) × (is_spent head ≡ false)
+  GetsBy head locale m n Empty = Reads locale m n head × IsEmptyHanded n.0.part × (is_spent head ≡ false)
+  GetsBy head locale m n Spent = Reads locale m n head × IsEmptyHanded n.0.part × (is_spent head ≡ true) × CanSpend plan n.0.seen
+
   abbrev pub Gets : ℕ → SeatOf → SeatOf → Get → Type 0
-  Gets locale m n (Got index) = (head : Option ℕ) × Reads locale m n head × HasOne plan.shape n.0.part (record { locale = locale; index = index })
-  Gets locale m n Empty = (head : Option ℕ) × Reads locale m n head × IsEmptyHanded n.0.part × (is_spent head ≡ false)
-  Gets locale m n Spent = (head : Option ℕ) × Reads locale m n head × IsEmptyHanded n.0.part × (is_spent head ≡ true) × CanSpend plan n.0.seen
+  Gets locale m n result = (head : Option ℕ) × GetsBy head locale m n result
 
-  -- the same, where the head was read unless an object was got
+  -- the same, where the head was read
   abbrev pub GetsHead : ℕ → SeatOf → SeatOf → Get → Type 0
-  GetsHead locale m n (Got index) = Gets locale m n (Got index)
-  GetsHead locale m n Empty = (head : Option ℕ) × Reads locale m n head × IsEmptyHanded n.0.part × (is_spent head ≡ false) × (is_some head ≡ true)
-  GetsHead locale m n Spent = Gets locale m n Spent
+  GetsHead locale m n result = (head : Option ℕ) × (is_some head ≡ true) × GetsBy head locale m n result
 
   -- the headers of the locale's first objects were read, and one said free, or none did
   pub record Scans (locale number : ℕ) (m n : SeatOf) (free : Bool) : Type 0 where
     pub looks : List (Look WordName)
     pub under : Under m n looks
     pub rests : IsEmptyHanded n.0.part
+    pub local : AreOf locale looks
     pub heads : (l : ℕ) → last_head looks l ≡ None
-    pub others : (p : Place) → (p.locale ≢ locale) ⊎ (number < p.index) → last_header looks p ≡ None
+    pub headers : (p : Place) → p.locale ≡ locale → 1 ≤ p.index → p.index ≤ number → is_some (last_header looks p) ≡ true
     pub taken : free ≡ false → (p : Place) → p.locale ≡ locale → 1 ≤ p.index → p.index ≤ number → IsTakenHeader (last_header looks p)
+    pub found : free ≡ true → (i : ℕ) × (1 ≤ i) × (i ≤ number) × IsFreeHeader (last_header looks (record { locale = locale; index = i }))
 
   -- one object of a taken chain comes into the hand, and the word that leads on is found
   pub record Walks (m n : SeatOf) (q : Pointer) (word : ℕ) : Type 0 where
-    pub reads : (locale : ℕ) → Reads locale m n None
+    pub reads : Reads q.locale m n None
     pub hand : n.0.part.seat.hand ≡ place_of q ∷ m.0.part.seat.hand
     pub chain : n.0.part.seat.homing.chain ≡ word
     pub tail : n.0.part.seat.homing.tail ≡ m.0.part.seat.homing.tail
@@ -177,7 +181,7 @@ module _ {C View' Call Reply State' : Type 0} (K : ClientTerms C View' Call Repl
   -- The same of the rest of a taken chain. The hand then has the first object and those from the top to the tail
   pub record WalksRest (locale : ℕ) (first top tail : Pointer) (m n : SeatOf) : Type 0 where
     pub rest : List Pointer
-    pub reads : (l : ℕ) → Reads l m n None
+    pub reads : Reads locale m n None
     pub chained : IsChained plan.shape n.0.part locale first (top ∷ rest) 0
     pub chain : n.0.part.seat.homing.chain ≡ 0
     pub last : tail ≡ last_of top rest
@@ -185,7 +189,7 @@ module _ {C View' Call Reply State' : Type 0} (K : ClientTerms C View' Call Repl
   -- and on the way there, where this word leads on
   pub record WalksOn (locale : ℕ) (first top tail : Pointer) (m n : SeatOf) (word : ℕ) : Type 0 where
     pub rest : List Pointer
-    pub reads : (l : ℕ) → Reads l m n None
+    pub reads : Reads locale m n None
     pub chained : IsChained plan.shape n.0.part locale first (top ∷ rest) word
     pub chain : n.0.part.seat.homing.chain ≡ word
     pub last : tail ≡ last_of top rest
@@ -195,21 +199,20 @@ module _ {C View' Call Reply State' : Type 0} (K : ClientTerms C View' Call Repl
 
   -- the link of the current object of the chain wasn't stored yet
   pub record Waits (m n : SeatOf) (q : Pointer) : Type 0 where
-    pub reads : (l : ℕ) → Reads l m n None
+    pub reads : Reads q.locale m n None
     pub seat : n.0.part.seat ≡ m.0.part.seat
     pub won : n.0.part.won ≡ m.0.part.won
     pub counts : (p : Place) → p ≢ place_of q → count_of n.0.part.facts p ≡ count_of m.0.part.facts p
     pub nexts : (p : Place) → p ≢ place_of q → next_word_of n.0.part.facts p ≡ next_word_of m.0.part.facts p
 
-  -- the chain of the hand went home
-  pub record GoesHome (m n : SeatOf) : Type 0 where
-    pub reads : (l : ℕ) → Reads l m n None
+  -- the chain of the hand, of objects of this locale, went home
+  pub record GoesHome (locale : ℕ) (m n : SeatOf) : Type 0 where
+    pub reads : Reads locale m n None
     pub empty : IsEmptyHanded n.0.part
 
   -- a take of one object
   pub record TakesOne (m n : SeatOf) (q : Pointer) : Type 0 where
     pub looks : List (Look WordName)
-    pub free : last_header looks (place_of q) ≡ Some (header_word q.count Free)
     pub goes : GoesTo (manager_terms K) (PastOpens opens) (PastSteps step) plan m n looks (entries_of_items m.0.number (event m.0.number (Given q))) n.0.part m.1
     pub phase : n.0.part.seat.phase ≡ m.0.part.seat.phase
     pub token : n.0.part.seat.token ≡ m.0.part.seat.token
@@ -222,23 +225,30 @@ module _ {C View' Call Reply State' : Type 0} (K : ClientTerms C View' Call Repl
     pub count : count_of n.0.part.facts (place_of q) ≡ Some q.count
     pub counts : (p : Place) → Has m.0.part p → count_of n.0.part.facts p ≡ count_of m.0.part.facts p
 
+  -- the same of the one in the hand: it read words of its locale, no head, and its header last as free
+  pub record OwnsOne (m n : SeatOf) (q : Pointer) : Type 0 where
+    pub takes : TakesOne m n q
+    pub local : AreOf q.locale takes.looks
+    pub heads : (l : ℕ) → last_head takes.looks l ≡ None
+    pub free : last_header takes.looks (place_of q) ≡ Some (header_word q.count Free)
+
   -- No object of these locales was got: a stack's head had the last count, or an object may be free, or else each was read last as one
   -- that isn't
-  pub record Misses (among : ℕ → Bool) (m n : SeatOf) (spent free : Bool) : Type 0 where
+  pub record Misses (order : List ℕ) (m n : SeatOf) (spent free : Bool) : Type 0 where
     pub looks : List (Look WordName)
     pub under : Under m n looks
     pub rests : IsEmptyHanded n.0.part
-    pub spends : spent ≡ true → (l : ℕ) × (among l ≡ true) × (is_spent (last_head looks l) ≡ true)
+    pub tour : IsTour plan.shape order looks
+    pub spends : spent ≡ true → (l : ℕ) × Contains order l × (is_spent (last_head looks l) ≡ true)
     pub can_spend : spent ≡ true → CanSpend plan n.0.seen
     pub unspent : spent ≡ false → (l : ℕ) → is_spent (last_head looks l) ≡ false
-    pub heads : (l : ℕ) → among l ≡ false → last_head looks l ≡ None
-    pub seen : (l : ℕ) → among l ≡ true → is_some (last_head looks l) ≡ true
-    pub others : (p : Place) → among p.locale ≡ false → last_header looks p ≡ None
-    pub taken : spent ≡ false → free ≡ false → (p : Place) → among p.locale ≡ true → IsPlace plan.shape p → IsTakenHeader (last_header looks p)
+    pub found : free ≡ true → (p : Place) × Contains order p.locale × IsPlace plan.shape p × IsFreeHeader (last_header looks p)
+    pub taken : spent ≡ false → free ≡ false → (p : Place) → Contains order p.locale → IsPlace plan.shape p → IsTakenHeader (last_header looks p)
 
-  abbrev pub Tries : ℕ → (ℕ → Bool) → SeatOf → SeatOf → Tried → Type 0
-  Tries first among m n (Taken q) = (takes : TakesOne m n q) × IsTriedFirst first q takes.looks
-  Tries first among m n (Missed spent free) = Misses among m n spent free
+  -- these locales were tried in this order, and an object of one was got, or none
+  abbrev pub Tries : List ℕ → SeatOf → SeatOf → Tried → Type 0
+  Tries order m n (Taken q) = (takes : TakesOne m n q) × IsGot plan.shape order q takes.looks
+  Tries order m n (Missed spent free) = Misses order m n spent free
 
   -- What a seat is before it tries locales: it is in no reclaim, has nothing under way, knows what it has, and is allowed the take
   pub record MayTry (number : ℕ) (part : Part View') : Type 0 where
@@ -247,11 +257,3 @@ module _ {C View' Call Reply State' : Type 0} (K : ClientTerms C View' Call Repl
     pub empty : IsEmptyHanded part
     pub known : IsKnowing part
     pub allowed : K.may_take part.client part.seat.owned
-
--- the locale is this one
-abbrev pub is_one : ℕ → ℕ → Bool
-is_one l k = k == l
-
--- it is one from the first on, and below the second
-abbrev pub is_within : ℕ → ℕ → ℕ → Bool
-is_within from to k = not (ltb k from) && ltb k to

@@ -1,5 +1,5 @@
 -- What a take does, and the words that are the cause of its answer.
-use Rattle.std.specs.Prelude.{◌≡◌, ◌⊎◌, is_some, ◌<◌, ◌≤◌, ◌==◌, ◌+◌, ◌^◌, ℕ, Bool, true, false, if◌then◌else◌, List, [], ◌∷◌, Option, Some, None, Result, Ok, Err}
+use Rattle.std.specs.Prelude.{◌≡◌, ◌<◌, ◌≤◌, ◌==◌, ◌+◌, ℕ, Bool, true, false, if◌then◌else◌, List, [], ◌∷◌, Option, Some, None, Result, Ok, Err}
 use Rattle.pass_book.specs.declared.entries.Entry.{Entry}
 use Rattle.pass_book.specs.declared.entries.Look.{Look}
 use Rattle.pgas_base.specs.declared.shapes.Shape.{Shape}
@@ -39,12 +39,17 @@ last_header (look ∷ looks) p = later (header_read look p) (last_header looks p
 
 -- the word is a header that says free
 abbrev pub SaysFree : ℕ → Type 0
-SaysFree word = (count : ℕ) × (count < 2 ^ 32) × (word ≡ header_word count Free)
+SaysFree word = (count : ℕ) × (word ≡ header_word count Free)
 
 -- a header was read, and it didn't say free
 abbrev pub IsTakenHeader : Option ℕ → Type 0
 IsTakenHeader None = ⊥
 IsTakenHeader (Some word) = ¬ SaysFree word
+
+-- a header was read, and it said free
+abbrev pub IsFreeHeader : Option ℕ → Type 0
+IsFreeHeader None = ⊥
+IsFreeHeader (Some word) = SaysFree word
 
 -- the same of the head of a locale's stack
 abbrev pub head_read : Look WordName → ℕ → Option ℕ
@@ -53,10 +58,6 @@ head_read look l = elim (look.name) [ free_stack k ↦ if k == l then Some look.
 abbrev pub last_head : List (Look WordName) → ℕ → Option ℕ
 last_head [] l = None
 last_head (look ∷ looks) l = later (head_read look l) (last_head looks l)
-
--- the object is of the locale that is tried first, or the head of that one's stack was read
-abbrev pub IsTriedFirst : ℕ → Pointer → List (Look WordName) → Type 0
-IsTriedFirst first q looks = (q.locale ≡ first) ⊎ (is_some (last_head looks first) ≡ true)
 
 -- a head was read, and its count is the last
 abbrev pub is_spent : Option ℕ → Bool
@@ -71,11 +72,6 @@ pub record NoneIsFree (shape : Shape) (looks : List (Look WordName)) : Type 0 wh
 -- some stack's head was
 abbrev pub SomeIsSpent : Shape → List (Look WordName) → Type 0
 SomeIsSpent shape looks = (l : ℕ) × (l < shape.locales) × (is_spent (last_head looks l) ≡ true)
-
--- the cause of a take's refusal
-abbrev pub TakeCause : Shape → TakeFault → List (Look WordName) → Type 0
-TakeCause shape (NoRoom locale) looks = NoneIsFree shape looks
-TakeCause shape (Spent count) looks = SomeIsSpent shape looks
 
 -- what a refusal tells: the locale that was asked for, or the last count
 abbrev pub TakeTells : ℕ → TakeFault → Type 0

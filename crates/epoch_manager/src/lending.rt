@@ -2,16 +2,18 @@
 //!
 //! The pools of the locales lend to their neighbours: a take goes round the locales, beginning with the one that was
 //! asked for, and the first object that it gets is its answer.
-ghost use Rattle.std.specs.Prelude.{◌≡◌, ◌<◌, ◌≤◌, ℕ, false, map, Err};
+ghost use Rattle.std.specs.Prelude.{◌≡◌, ◌<◌, ◌≤◌, ℕ, ◌-◌, false, [], ◌∷◌, map, Err};
+ghost use Rattle.std.specs.List.{range_with_len};
 ghost use mathlib.Core.List.{IsPrefix};
 ghost use Rattle.epoch_laws.specs.Places.{place_of};
 ghost use Rattle.epoch_laws.specs.Seats.{is_reclaiming};
 ghost use Rattle.pass_table.specs.Passes.{IsSeatOf, view_of, me_of};
 ghost use Rattle.epoch_manager.specs.declared.faults.TakeFault.TheVariants.{Spent};
 ghost use Rattle.epoch_manager.specs.Managers.{plan_of, opening_of, shape_of, callers_of, pass_opening, phase_of, caller_of, page, owned_by, held_by, knows, IsSamePass, change, ListsItems, ReadsWords};
-ghost use Rattle.epoch_manager.specs.TakeCalls.{owned_then, knows_then, IsInside, TakeReads, IsTold, TakesSeat};
+ghost use Rattle.epoch_manager.specs.TakeCalls.{owned_then, knows_then, IsInside, IsTold, TakesSeat};
 ghost use Rattle.epoch_manager.specs.Takes.{taken_items, CanSpend};
-ghost use Rattle.epoch_manager.specs.TakeSeats.{IsEmptyHanded, MayTry, GetsHead, Tries, is_one, is_within};
+ghost use Rattle.epoch_manager.specs.Tours.{order_from, TakeReads};
+ghost use Rattle.epoch_manager.specs.TakeSeats.{IsEmptyHanded, MayTry, GetsHead, Tries};
 
 use crate::faults::TakeFault;
 use crate::gets::{Get, Tried};
@@ -48,7 +50,7 @@ impl<C: Client> Manager<C> {
         requires locale { locale < (shape_of self.now).locales }
         requires may { MayTry C.terms C.Object.opens C.Object.step (plan_of self.now) (view_of seat.old).number (view_of seat.old).part }
         ensures seat { IsSeatOf self.now.words.table seat.new }
-        ensures tries { Tries C.terms C.Object.opens C.Object.step (plan_of self.now) locale (is_one locale) (me_of seat.old) (me_of seat.new) result }
+        ensures tries { Tries C.terms C.Object.opens C.Object.step (plan_of self.now) (locale ∷ []) (me_of seat.old) (me_of seat.new) result }
     {
         let got = self.get(rt, seat, locale);
         match got {
@@ -74,7 +76,7 @@ impl<C: Client> Manager<C> {
         requires locales { to ≤ (shape_of self.now).locales }
         requires may { MayTry C.terms C.Object.opens C.Object.step (plan_of self.now) (view_of seat.old).number (view_of seat.old).part }
         ensures seat { IsSeatOf self.now.words.table seat.new }
-        ensures tries { Tries C.terms C.Object.opens C.Object.step (plan_of self.now) from (is_within from to) (me_of seat.old) (me_of seat.new) result }
+        ensures tries { Tries C.terms C.Object.opens C.Object.step (plan_of self.now) (range_with_len from (to - from)) (me_of seat.old) (me_of seat.new) result }
     {
         let mut spent = false;
         let mut free = false;
@@ -99,7 +101,7 @@ impl<C: Client> Manager<C> {
         requires locale { first < (shape_of self.now).locales }
         requires may { MayTry C.terms C.Object.opens C.Object.step (plan_of self.now) (view_of seat.old).number (view_of seat.old).part }
         ensures seat { IsSeatOf self.now.words.table seat.new }
-        ensures tries { Tries C.terms C.Object.opens C.Object.step (plan_of self.now) first (is_within 0 (shape_of self.now).locales) (me_of seat.old) (me_of seat.new) result }
+        ensures tries { Tries C.terms C.Object.opens C.Object.step (plan_of self.now) (order_from first (shape_of self.now).locales) (me_of seat.old) (me_of seat.new) result }
     {
         match self.try_range(rt, seat, first, self.shape.locales) {
             Tried::Taken { ptr } => Tried::Taken { ptr },

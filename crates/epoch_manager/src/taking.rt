@@ -3,7 +3,7 @@
 //! Free objects of a locale stand in a stack (Treiber 1986), and released ones in a chain of objects that came home.
 //! A take pops from the stack, and where that is empty takes the whole chain: it keeps one object and puts the others
 //! on the stack.
-ghost use Rattle.std.specs.Prelude.{◌≡◌, ◌<◌, ◌^◌, ℕ, false, []};
+ghost use Rattle.std.specs.Prelude.{◌≡◌, ◌<◌, ◌^◌, ℕ, true, false, []};
 ghost use Rattle.pool_core.specs.Headers.{header_word};
 ghost use Rattle.pgas_base.specs.Pointers.{IsPointer, word_of};
 ghost use Rattle.epoch_laws.specs.Places.{index_in, place_of};
@@ -12,7 +12,7 @@ ghost use Rattle.epoch_laws.specs.Seats.{is_reclaiming};
 ghost use Rattle.pass_table.specs.Passes.{IsSeatOf, view_of, me_of};
 ghost use Rattle.epoch_manager.specs.Managers.{plan_of, shape_of, callers_of};
 ghost use Rattle.epoch_manager.specs.Takes.{SaysFree};
-ghost use Rattle.epoch_manager.specs.TakeSeats.{IsEmptyHanded, IsKnowing, HasOne, IsChained, HoldsChain, HoldsRest, Gets, GetsHead, Scans, Walks, WalksRest, GoesHome, TakesOne};
+ghost use Rattle.epoch_manager.specs.TakeSeats.{IsEmptyHanded, IsKnowing, HasOne, IsChained, HoldsChain, HoldsRest, Gets, GetsHead, Scans, Walks, WalksRest, GoesHome, OwnsOne};
 
 use crate::gets::Get;
 use crate::homes::PENDING;
@@ -53,7 +53,8 @@ fn count_in(header: u64) -> u32
 
 // Whether a header says free. The low three bits are the state, and free is 0.
 fn says_free(header: u64) -> bool
-    ensures { result ≡ false → ¬ SaysFree header }
+    ensures free { result ≡ true → SaysFree header }
+    ensures other { result ≡ false → ¬ SaysFree header }
 {
     header % 8 == 0
 }
@@ -95,7 +96,7 @@ impl<C: Client> Manager<C> {
         requires allowed { C.terms.may_take (view_of seat.old).part.client (view_of seat.old).part.seat.owned }
         ensures seat { IsSeatOf self.now.words.table seat.new }
         ensures local { result.locale ≡ locale }
-        ensures takes { TakesOne C.terms C.Object.opens C.Object.step (plan_of self.now) (me_of seat.old) (me_of seat.new) result }
+        ensures takes { OwnsOne C.terms C.Object.opens C.Object.step (plan_of self.now) (me_of seat.old) (me_of seat.new) result }
     {
         let header = self.words.take_look(seat, locale, index);
         let count = count_in(header);
@@ -175,7 +176,7 @@ impl<C: Client> Manager<C> {
         requires below { (view_of seat.old).number < callers_of self.now }
         requires chain { HoldsChain (shape_of self.now) (view_of seat.old).part first tail }
         ensures seat { IsSeatOf self.now.words.table seat.new }
-        ensures home { GoesHome C.terms C.Object.opens C.Object.step (plan_of self.now) (me_of seat.old) (me_of seat.new) }
+        ensures home { GoesHome C.terms C.Object.opens C.Object.step (plan_of self.now) first.locale (me_of seat.old) (me_of seat.new) }
     {
         self.words.hand_link(seat, tail, PENDING);
         self.chain_home(seat, first, tail);

@@ -13,4 +13,4 @@ returns-in-Empty-clause-gets g c =
     let k = me_of c.pop-popped.new.seat in
     let n = me_of c.take_home.new.seat in
     let first = c.in-Empty.ensures.gets in
-    head_then K o s p c.args.locale m k n c.take_home.result first.0 first.1 first.3 first.4 c.take_home.ensures.gets
+    head_then K o s p c.args.locale m k n c.take_home.result first.0 first.2.0 first.2.2 first.1 c.take_home.ensures.gets

@@ -1,7 +1,7 @@
 use Rattle.std.proofs.Common.{sym, subst}
 use Rattle.pass_table.specs.Passes.{me_of}
 use Rattle.epoch_manager.specs.Managers.{plan_of}
-use Rattle.epoch_manager.specs.TakeSeats.{TakesOne}
+use Rattle.epoch_manager.specs.TakeSeats.{OwnsOne}
 use Rattle.epoch_manager.proofs.HeaderTakes.{may_see, k_count, may_own, own_takes}
 use Rattle.epoch_manager.proofs.managers.Manager.own.Goals as goal
 
@@ -54,4 +54,4 @@ returns-clause-takes g c =
     let k = me_of c.take_look-header.new.seat in
     let looks = c.take_look-header.ensures.makes in
     let n = me_of c.take_try.new.seat in
-    subst (TakesOne K o s p m n) (sym c.new.ensures) (own_takes K o s p m k n l i c.count_in-count.result c.take_look-header.result c.take_try.result c.requires.below c.requires.phase c.requires.one c.count_in-count.ensures looks c.take_try.ensures.makes)
+    subst (OwnsOne K o s p m n) (sym c.new.ensures) (own_takes K o s p m k n l i c.count_in-count.result c.take_look-header.result c.take_try.result c.requires.below c.requires.phase c.requires.one c.count_in-count.ensures looks c.take_try.ensures.makes)

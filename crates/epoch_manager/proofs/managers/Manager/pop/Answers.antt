@@ -51,7 +51,7 @@ returns-then-head-eq-LAST_COUNT-clause-gets g c =
     let count = head.result.count in
     let index = head.result.index in
     let spent = a_spent K o s p l count index m k a a a sofar.0 sofar.1 empty c.requires.locale c.stack_look.result 0 0 head.ensures.count head.ensures.index looks c.if-head-eq-LAST_COUNT.true in
-    (Some c.stack_look.result, a_reads K o s p l count index m k a a a sofar.0 sofar.1 empty c.requires.locale c.stack_look.result 0 0 head.ensures.count head.ensures.index looks, a_empty K o s p l count index m k a a a sofar.0 sofar.1 empty c.requires.locale c.stack_look.result 0 0 head.ensures.count head.ensures.index looks, spent.0, spent.1)
+    (Some c.stack_look.result, refl, (a_reads K o s p l count index m k a a a sofar.0 sofar.1 empty c.requires.locale c.stack_look.result 0 0 head.ensures.count head.ensures.index looks, a_empty K o s p l count index m k a a a sofar.0 sofar.1 empty c.requires.locale c.stack_look.result 0 0 head.ensures.count head.ensures.index looks, spent.0, spent.1))
 
 pub returns-then-head-eq0-clause-gets : goal.returns-then-head-eq0-clause-gets
 returns-then-head-eq0-clause-gets g c =
@@ -69,7 +69,7 @@ returns-then-head-eq0-clause-gets g c =
     let head = c.of_free_word-head in
     let count = head.result.count in
     let index = head.result.index in
-    (Some c.stack_look.result, a_reads K o s p l count index m k a a a sofar.0 sofar.1 empty c.requires.locale c.stack_look.result 0 0 head.ensures.count head.ensures.index looks, a_empty K o s p l count index m k a a a sofar.0 sofar.1 empty c.requires.locale c.stack_look.result 0 0 head.ensures.count head.ensures.index looks, a_unspent K o s p l count index m k a a a sofar.0 sofar.1 empty c.requires.locale c.stack_look.result 0 0 head.ensures.count head.ensures.index looks c.if-head-eq-LAST_COUNT.false, refl)
+    (Some c.stack_look.result, refl, (a_reads K o s p l count index m k a a a sofar.0 sofar.1 empty c.requires.locale c.stack_look.result 0 0 head.ensures.count head.ensures.index looks, a_empty K o s p l count index m k a a a sofar.0 sofar.1 empty c.requires.locale c.stack_look.result 0 0 head.ensures.count head.ensures.index looks, a_unspent K o s p l count index m k a a a sofar.0 sofar.1 empty c.requires.locale c.stack_look.result 0 0 head.ensures.count head.ensures.index looks c.if-head-eq-LAST_COUNT.false))
 
 pub stack_next-next-requires-clause-top : goal.stack_next-next-requires-clause-top
 stack_next-next-requires-clause-top g c =
@@ -221,7 +221,7 @@ returns-then-found-free_word-clause-gets g c =
     let b = me_of c.stack_next-next.new.seat in
     let reads = c.stack_next-next.ensures.makes in
     let d = me_of c.stack_pop-found.new.seat in
-    d_won K o s p l count index m k a b d sofar.0 sofar.1 empty c.requires.locale c.stack_look.result c.stack_pop-found.result c.stack_next-next.result head.ensures.count head.ensures.index looks c.if-head-eq0.false reads c.stack_pop-found.ensures.makes (c.if-found-free_word.true ∙ c.free_word.ensures.value) head.ensures.index_bound
+    d_won K o s p l count index m k a b d sofar.0 sofar.1 empty c.requires.locale c.stack_look.result c.stack_pop-found.result c.stack_next-next.result head.ensures.count head.ensures.index looks c.if-head-eq0.false reads c.stack_pop-found.ensures.makes (c.if-found-free_word.true ∙ c.free_word.ensures.value) head.ensures.index_bound c.if-head-eq-LAST_COUNT.false
 
 pub loop-preserved : goal.loop-preserved
 loop-preserved g c =

@@ -253,8 +253,8 @@ returns-then-found-free_word-clause-gets g c =
     let links = c.hand_link.ensures.makes in
     let d = me_of c.stack_put-found.new.seat in
     let found = c.stack_put-found.result in
-    let won = p_won K o s p m k a b d first top tail l count index hw link found link sofar.0 sofar.1 holds refl c.requires.below c.requires.phase head.ensures.count head.ensures.index looks links c.link_to-below.ensures c.stack_put-found.ensures.makes (c.if-found-free_word.true ∙ c.free_word.ensures.value) head.ensures.index_bound in
-    (won.0, won.1, subst (λ i. HasOne p.shape (me_of c.stack_put-found.new.seat).0.part (record { locale = l; index = i })) (sym c.index.ensures.value) won.2)
+    let won = p_won K o s p m k a b d first top tail l count index hw link found link sofar.0 sofar.1 holds refl c.requires.below c.requires.phase head.ensures.count head.ensures.index looks links c.link_to-below.ensures c.stack_put-found.ensures.makes (c.if-found-free_word.true ∙ c.free_word.ensures.value) head.ensures.index_bound c.if-head-eq-LAST_COUNT.false in
+    (won.0, (won.1.0, subst (λ i. HasOne p.shape (me_of c.stack_put-found.new.seat).0.part (record { locale = l; index = i })) (sym c.index.ensures.value) won.1.1, won.1.2))
 
 pub loop-preserved : goal.loop-preserved
 loop-preserved g c =

@@ -1,4 +1,4 @@
-use Rattle.std.proofs.Common.{◌≡◌, ◌+◌, ◌∙◌, ap, sym, subst, arith, false}
+use Rattle.std.proofs.Common.{◌≡◌, ◌⊎◌, ◌+◌, ◌∙◌, ap, sym, subst, arith, true, false, inl, inr}
 use Rattle.epoch_laws.specs.Seats.{is_reclaiming}
 use Rattle.pass_table.specs.Passes.{me_of}
 use Rattle.epoch_manager.specs.Managers.{plan_of}
@@ -62,9 +62,14 @@ loop-number-preserved g c =
     let tells : c.if-free.free ≡ false → (c.loop-number.free ≡ false) × (¬ SaysFree word) =
     elim (c.if-free.branch) [
       | then-free w ↦ λ none. absurd (cc (none, w.free-is))
-      | else-free w ↦ λ none. (w.if-free.false, w.says_free-free.ensures (sym w.free-is ∙ none))
+      | else-free w ↦ λ none. (w.if-free.false, w.says_free-free.ensures.other (sym w.free-is ∙ none))
     ] in
-    record { seat = c.take_look-header.ensures.seat; scans = scan_more K o s p l number m k n c.loop-number.free false c.if-free.free word was c.requires.known c.take_look-header.ensures.makes tells }
+    let finds : c.if-free.free ≡ true → (c.loop-number.free ≡ true) ⊎ SaysFree word =
+    elim (c.if-free.branch) [
+      | then-free w ↦ λ some. inl w.if-free.true
+      | else-free w ↦ λ some. inr (w.says_free-free.ensures.free (sym w.free-is ∙ some))
+    ] in
+    record { seat = c.take_look-header.ensures.seat; scans = scan_more K o s p l number m k n c.loop-number.free false c.if-free.free word was c.requires.known c.take_look-header.ensures.makes tells finds }
 
 pub returns-clause-seat : goal.returns-clause-seat
 returns-clause-seat g c =

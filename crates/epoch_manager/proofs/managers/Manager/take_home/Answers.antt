@@ -1,9 +1,9 @@
-use Rattle.std.proofs.Common.{◌≤◌, ◌∙◌, ap, refl, sym, subst, ⊎_elim, arith, []}
+use Rattle.std.proofs.Common.{◌≤◌, ◌∙◌, ap, refl, sym, subst, ⊎_elim, arith, [], None}
 use Rattle.epoch_laws.specs.Seats.{is_reclaiming}
 use Rattle.pass_table.specs.Passes.{me_of}
 use Rattle.epoch_manager.specs.Managers.{plan_of}
-use Rattle.epoch_manager.specs.TakeSeats.{IsChained}
-use Rattle.epoch_manager.proofs.HomeTakes.{may_take_home, n_reads, n_chain, leads, none_came, first_inside, k_reads, k_chained, one_came, rest_came, next_came}
+use Rattle.epoch_manager.specs.TakeSeats.{IsChained, Reads}
+use Rattle.epoch_manager.proofs.HomeTakes.{may_take_home, n_reads, n_chain, leads, none_came, first_inside, first_local, k_reads, k_chained, one_came, rest_came, next_came}
 use Rattle.epoch_manager.proofs.HomeWalks.{ends_chain}
 use Rattle.epoch_manager.proofs.Takes.{number_still, reads_then}
 use Rattle.epoch_manager.proofs.managers.Manager.take_home.Goals as goal
@@ -46,7 +46,7 @@ walk-next-requires-clause-phase g c =
     let n = me_of c.home_take-chain.new.seat in
     let found = c.home_take-chain.result in
     let takes = c.home_take-chain.ensures.makes in
-    let reads = n_reads K o s p m n l found empty takes 0 in
+    let reads = n_reads K o s p m n l found empty takes in
     ap is_reclaiming reads.under.same.phase ∙ c.requires.phase
 
 pub walk-next-requires-clause-place : goal.walk-next-requires-clause-place
@@ -122,7 +122,7 @@ walk_rest-tail-requires-clause-below g c =
     let k = me_of c.walk-next.new.seat in
     let word = c.walk-next.result in
     let walks = c.walk-next.ensures.walks in
-    let reads = k_reads K o s p m n l found empty takes first is same k word walks 0 in
+    let reads = k_reads K o s p m n l found empty takes first is same k word walks in
     let low = c.requires.below in
     let number = number_still K o s p m k reads.looks reads.under in
     omega (arith, low, number)
@@ -145,7 +145,7 @@ walk_rest-tail-requires-clause-phase g c =
     let k = me_of c.walk-next.new.seat in
     let word = c.walk-next.result in
     let walks = c.walk-next.ensures.walks in
-    let reads = k_reads K o s p m n l found empty takes first is same k word walks 0 in
+    let reads = k_reads K o s p m n l found empty takes first is same k word walks in
     ap is_reclaiming reads.under.same.phase ∙ c.requires.phase
 
 pub walk_rest-tail-requires-clause-place : goal.walk_rest-tail-requires-clause-place
@@ -240,7 +240,7 @@ put_rest-requires-clause-below g c =
     let same_top = c.in-Some-of_word.ensures.some in
     let r = me_of c.walk_rest-tail.new.seat in
     let walked = c.walk_rest-tail.ensures.walks in
-    let reads = reads_then K o s p 0 m k r _ _ (k_reads K o s p m n l found empty takes first is same k word walks 0) (walked.reads 0) in
+    let reads = reads_then K o s p l m k r _ _ (k_reads K o s p m n l found empty takes first is same k word walks) (subst (λ i. Reads K o s p i k r None) (first_local K o s p m n l found empty takes first is same) walked.reads) in
     let low = c.requires.below in
     let number = number_still K o s p m r reads.looks reads.under in
     omega (arith, low, number)
@@ -268,7 +268,7 @@ put_rest-requires-clause-phase g c =
     let same_top = c.in-Some-of_word.ensures.some in
     let r = me_of c.walk_rest-tail.new.seat in
     let walked = c.walk_rest-tail.ensures.walks in
-    let reads = reads_then K o s p 0 m k r _ _ (k_reads K o s p m n l found empty takes first is same k word walks 0) (walked.reads 0) in
+    let reads = reads_then K o s p l m k r _ _ (k_reads K o s p m n l found empty takes first is same k word walks) (subst (λ i. Reads K o s p i k r None) (first_local K o s p m n l found empty takes first is same) walked.reads) in
     ap is_reclaiming reads.under.same.phase ∙ c.requires.phase
 
 pub returns-clause-gets : goal.returns-clause-gets

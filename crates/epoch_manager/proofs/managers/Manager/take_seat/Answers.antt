@@ -1,7 +1,6 @@
-use Rattle.std.proofs.Common.{inl}
 use Rattle.pass_table.specs.Passes.{me_of}
 use Rattle.epoch_manager.specs.Managers.{plan_of}
-use Rattle.epoch_manager.proofs.Rounds.{gone_none, gone_on, takes_after, may_still, spent_refuses, no_room_refuses}
+use Rattle.epoch_manager.proofs.Rounds.{gone_none, gone_on, gone_takes, may_still, spent_refuses, no_room_refuses}
 use Rattle.epoch_manager.proofs.managers.Manager.take_seat.Goals as goal
 
 pub loop-init : goal.loop-init
@@ -11,7 +10,7 @@ loop-init g c =
     let s = g.C.Object.Object.step in
     let p = plan_of c.args.self.now in
     let m = me_of c.args.seat.now in
-    record { seat = c.requires.seat; gone = gone_none K o s p m c.requires.may.empty }
+    record { seat = c.requires.seat; gone = gone_none K o s p c.args.locale m c.requires.may.empty }
 
 pub try_round-requires-clause-may : goal.try_round-requires-clause-may
 try_round-requires-clause-may g c =
@@ -34,7 +33,7 @@ returns-in-Taken-clause-takes g c =
     let n = me_of c.try_round.new.seat in
     let was = c.loop.invariant.gone in
     let tries = c.in-Taken.ensures.tries in
-    takes_after K o s p c.args.locale m k n was.looks c.in-Taken.ptr was.under tries.0 (inl tries.1)
+    gone_takes K o s p c.args.locale m k n c.in-Taken.ptr was tries
 
 pub returns-then-spent-clause-takes : goal.returns-then-spent-clause-takes
 returns-then-spent-clause-takes g c =
@@ -46,7 +45,7 @@ returns-then-spent-clause-takes g c =
     let k = me_of c.loop.seat in
     let n = me_of c.try_round.new.seat in
     let was = c.loop.invariant.gone in
-    spent_refuses K o s p m k n was c.in-Missed.spent c.in-Missed.free c.in-Missed.ensures.tries c.args.locale c.if-spent.true
+    spent_refuses K o s p c.args.locale c.requires.locale m k n was c.in-Missed.spent c.in-Missed.free c.in-Missed.ensures.tries c.if-spent.true
 
 pub returns-then-not-free-clause-takes : goal.returns-then-not-free-clause-takes
 returns-then-not-free-clause-takes g c =
@@ -58,7 +57,7 @@ returns-then-not-free-clause-takes g c =
     let k = me_of c.loop.seat in
     let n = me_of c.try_round.new.seat in
     let was = c.loop.invariant.gone in
-    no_room_refuses K o s p m k n was c.in-Missed.spent c.in-Missed.free c.in-Missed.ensures.tries c.args.locale c.if-spent.false c.if-not-free.true
+    no_room_refuses K o s p c.args.locale c.requires.locale m k n was c.in-Missed.spent c.in-Missed.free c.in-Missed.ensures.tries c.if-spent.false c.if-not-free.true
 
 pub loop-preserved : goal.loop-preserved
 loop-preserved g c =
@@ -70,4 +69,4 @@ loop-preserved g c =
     let k = me_of c.loop.seat in
     let n = me_of c.try_round.new.seat in
     let was = c.loop.invariant.gone in
-    record { seat = c.try_round.ensures.seat; gone = gone_on K o s p m k n was c.in-Missed.spent c.in-Missed.free c.in-Missed.ensures.tries c.if-spent.false }
+    record { seat = c.try_round.ensures.seat; gone = gone_on K o s p c.args.locale c.requires.locale m k n was c.in-Missed.spent c.in-Missed.free c.in-Missed.ensures.tries c.if-spent.false c.if-not-free.false }

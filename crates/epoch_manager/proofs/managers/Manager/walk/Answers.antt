@@ -48,7 +48,7 @@ home_walk-next-requires-clause-may g c =
     let q = c.args.ptr in
     let k = me_of c.loop.seat in
     let was = c.loop.invariant.waits in
-    let reads = was.reads 0 in
+    let reads = was.reads in
     let low = c.requires.below in
     let number = number_still K o s p m k reads.looks reads.under in
     may_walk K o s p k q (omega (arith, low, number)) (ap is_reclaiming reads.under.same.phase ∙ c.requires.phase) c.requires.pointer (chain_still K o s p m k q c.requires.chain was)

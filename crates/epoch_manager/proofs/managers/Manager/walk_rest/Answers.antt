@@ -59,7 +59,7 @@ walk-word-requires-in-loop-clause-below g c =
     let top = c.args.top in
     let k = me_of c.loop.seat in
     let was = c.loop.invariant.on in
-    let reads = was.reads 0 in
+    let reads = was.reads in
     let low = c.requires.below in
     let number = number_still K o s p m k reads.looks reads.under in
     omega (arith, low, number)
@@ -75,7 +75,7 @@ walk-word-requires-in-loop-clause-phase g c =
     let top = c.args.top in
     let k = me_of c.loop.seat in
     let was = c.loop.invariant.on in
-    let reads = was.reads 0 in
+    let reads = was.reads in
     ap is_reclaiming reads.under.same.phase ∙ c.requires.phase
 
 pub walk-word-requires-in-loop-clause-place : goal.walk-word-requires-in-loop-clause-place
