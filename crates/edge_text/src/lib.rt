@@ -17,6 +17,3 @@ pub use laws::{inputs_mean_one, weighted_lists_read_back, written_edges_read_bac
 pub use line_text::TextFault as EdgeFault;
 pub use reader::read_edges;
 pub use writer::{write_edge, write_weighted};
-
-#[cfg(test)]
-mod tests;

@@ -24,6 +24,3 @@ pub use listing::write_checked;
 pub use reader::read_run;
 pub use runs::{RunText, StepLine};
 pub use writer::write_run;
-
-#[cfg(test)]
-mod tests;

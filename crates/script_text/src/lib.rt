@@ -22,6 +22,3 @@ pub use reader::read_script;
 pub use replies::{Left, Replies, Reply};
 pub use scripts::{Call, ObjectLine, Round, Script};
 pub use writer::{write_replies, write_script};
-
-#[cfg(test)]
-mod tests;

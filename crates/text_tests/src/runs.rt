@@ -1,11 +1,11 @@
 ghost use Rattle.std.specs.Prelude.{IfOk};
 ghost use Rattle.run_text.specs.Runs.{IsOpening};
 
-use crate::{
+use pgas_base::{Ptr, Shape, Start};
+use run_text::{
     Kind, RunEnd, RunFault, RunText, Step, StepLine, check_run, inputs_mean_one, read_run,
     write_checked, write_run, written_runs_read_back,
 };
-use pgas_base::{Ptr, Shape, Start};
 use shared_io::SureSource;
 use std::alloc::{AllocError, Global};
 use std::test::Fail;

@@ -1,7 +1,7 @@
 ghost use Rattle.std.specs.Prelude.{IfOk};
 ghost use Rattle.script_text.specs.Scripts.{IsValid, plain_script};
 
-use crate::{
+use script_text::{
     Call, Left, ObjectLine, Replies, Reply, Script, ScriptFault, inputs_mean_one, read_script,
     write_replies, write_script,
 };

@@ -1,4 +1,4 @@
-use crate::{Edge, EdgeFault, EdgeList, read_edges, write_edge, write_weighted};
+use edge_text::{Edge, EdgeFault, EdgeList, read_edges, write_edge, write_weighted};
 use shared_io::{SureSource, TextSource, TooKind};
 use std::alloc::{AllocError, Global};
 use std::test::Fail;
