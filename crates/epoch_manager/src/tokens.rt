@@ -13,6 +13,7 @@ ghost use Rattle.epoch_manager.specs.Tokens.{TakesToken, RegistersAs, registered
 use crate::faults::TokensFull;
 use crate::managers::{Manager, Pass};
 use crate::phases::Phase;
+use arrayvec::ArrayVec;
 use epoch_laws::Token;
 use epoch_table::{Client, TableSeat};
 
@@ -128,7 +129,7 @@ impl<C: Client> Manager<C> {
             unreachable!()
         };
         self.words.unpin(&mut pass.pass.seat, token);
-        pass.held.clear();
+        pass.held = ArrayVec::new();
         pass.phase = Phase::Registered { token };
     }
 }

@@ -62,7 +62,7 @@ invariant_of-pass-2 g c =
     let t = c.in-Pinned.token in
     let n = me_of c.unpin.new.seat in
     let d = unpin_done K o s p m n phase fits t is c.unpin.ensures.makes in
-    record { fits = done_fits K o s p m n _ _ _ _ d (ap (λ x. x.plan) c.unpin.ensures.seat); holds = c.clear.ensures ∙ ap (λ x. map number_of x.seat.held) (sym d.goes.1) }
+    record { fits = done_fits K o s p m n _ _ _ _ d (ap (λ x. x.plan) c.unpin.ensures.seat); holds = c.new-pass.ensures ∙ ap (λ x. map number_of x.seat.held) (sym d.goes.1) }
 
 pub returns-clause-owned : goal.returns-clause-owned
 returns-clause-owned g c =
