@@ -19,3 +19,4 @@ pub mod TakeSeats
 pub mod TakeCalls
 pub mod Releasing
 pub mod ReclaimCalls
+pub mod Carrying
