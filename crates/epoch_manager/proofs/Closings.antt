@@ -15,7 +15,7 @@ use Rattle.epoch_laws.specs.Words.{WordName}
 use Rattle.pass_table.specs.declared.passes.Pass.{Pass}
 use Rattle.pass_table.specs.Closings.{ClosesWith as TableCloses}
 use Rattle.pass_table.specs.Openings.{AreInOrder}
-use Rattle.pass_table.specs.Passes.{caller_of as table_caller, page as table_page}
+use Rattle.pass_table.specs.Passes.{pass_view, caller_of as table_caller, page as table_page}
 use Rattle.pass_table.proofs.Lists.{all_in_order, all_at}
 use Rattle.epoch_table.specs.declared.events.Happens.{Happens}
 use Rattle.epoch_table.specs.declared.parts.Plan.{Plan}
@@ -28,7 +28,7 @@ use Rattle.epoch_table.proofs.Openings.{in_order_at}
 use Rattle.epoch_manager.specs.declared.managers.ClientPass.{ClientPass}
 use Rattle.epoch_manager.specs.declared.managers.Manager.{Manager}
 use Rattle.epoch_manager.specs.Closed.{ClosesWith, row_words, row_place}
-use Rattle.epoch_manager.specs.Managers.{plan_of, shape_of, caller_of, page}
+use Rattle.epoch_manager.specs.Managers.{plan_of, shape_of, caller_of, page, knows}
 use Rattle.epoch_manager.proofs.Openings.{got}
 
 -- one more was moved from the end of the one list to the front of what was taken out of the other
@@ -115,6 +115,8 @@ module _ {C O View' Call Reply State' : Type 0} (K : ClientTerms C View' Call Re
     holds = subst (λ c. K.holds c (shape_of m) last_scene) (sym is) closes.rule.client;
     entries = refl;
     deferrals = refl;
+    views = all_in_order (λ k p. (closes.parts (caller_of p)).client ≡ knows p) (λ (p : ClientPass C View' Call Reply). (closes.parts (caller_of p)).client ≡ knows p) passes (λ k p has. has)
+        (λ k p at. ap (λ (part : Part View'). part.client) (all_at (λ q. closes.parts (table_caller q) ≡ (pass_view q).part) bares k p.pass closes.told (got (λ (q : ClientPass C View' Call Reply). q.pass) passes bares k p (sym same) at)));
     many_words = many ∙ (sym owns ∙ (closes.rule.owns ∙ ap K.own (sym is)));
     words_are = subst (λ s. AreOwnWords table s words) (sym planned) each;
     many_rows = many_rows ∙ ap row_words (sym planned);

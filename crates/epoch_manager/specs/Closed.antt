@@ -12,7 +12,7 @@ use Rattle.epoch_table.specs.Events.{PastOpens, PastSteps, items_in, entries_in}
 use Rattle.epoch_table.specs.Rule.{manager_terms}
 use Rattle.epoch_manager.specs.declared.managers.ClientPass.{ClientPass}
 use Rattle.epoch_manager.specs.declared.managers.Manager.{Manager}
-use Rattle.epoch_manager.specs.Managers.{plan_of, shape_of, callers_of, caller_of, page}
+use Rattle.epoch_manager.specs.Managers.{plan_of, shape_of, callers_of, caller_of, page, knows}
 
 -- how many words the rows of all objects have
 abbrev pub row_words : Shape → ℕ
@@ -24,8 +24,8 @@ row_place shape p at = (p.locale * shape.objects + (p.index - 1)) * shape.width 
 
 module _ {C O View' Call Reply State' : Type 0} (K : ClientTerms C View' Call Reply State') (opens : State' → Type 0) (step : State' → Call → Reply → State' → Type 0) (m : Manager C O View' Call Reply State') where
   -- There is the one book of the manager: its history is legal, and it has a page for each caller, with just its entries. Each pass has its caller's page, and had seen
-  -- a beginning of the history, and no caller lacks a pass. The client's rule holds of a scene of this history whose own words are these, and in which the
-  -- rows of the objects that are owned or shown are these
+  -- a beginning of the history, and no caller lacks a pass. The client's rule holds of a scene of this history whose own words are these, in which each caller
+  -- knows what its pass does, and in which the rows of the objects that are owned or shown are these
   pub record ClosesWith (passes : List (ClientPass C View' Call Reply)) (client : C) (words rows : List ℕ) : Type 0 where
     pub same : client ≡ (plan_of m).client
     pub book : Book (Happens Call Reply) (Unit {0}) (Past State')
@@ -38,6 +38,7 @@ module _ {C O View' Call Reply State' : Type 0} (K : ClientTerms C View' Call Re
     pub holds : K.holds client (shape_of m) scene
     pub entries : scene.entries ≡ entries_in book.history
     pub deferrals : scene.deferrals ≡ deferrals_in (items_in book.history)
+    pub views : All (λ p. scene.views (caller_of p) ≡ knows p) passes
     pub many_words : length words ≡ K.own client
     pub words_are : AreInOrder (λ k word. word ≡ scene.words k) words
     pub many_rows : length rows ≡ row_words (shape_of m)

@@ -22,3 +22,4 @@ pub mod Gathering
 pub mod TakeCalls
 pub mod Releasing
 pub mod ReclaimCalls
+pub mod Carrying

@@ -1,17 +1,29 @@
-ghost use Rattle.std.specs.Prelude.{◌≡◌, ◌<◌, length, All, IfSome, Contains};
+ghost use Rattle.std.specs.Prelude.{◌≡◌, ◌<◌, length, All, IfOk, IfSome, Contains};
 ghost use Rattle.epoch_laws.specs.declared.tokens.Token.{Token};
 ghost use Rattle.epoch_manager.specs.Opened.{AreOfOpening, IsIdlePass};
 ghost use Rattle.pgas_base.specs.declared.spots.Spot.TheVariants.{Own as OwnSpot};
 ghost use Rattle.epoch_manager.specs.Cells.{cells_terms};
-ghost use Rattle.epoch_manager.specs.Managers.{plan_of, opening_of, callers_of, pass_opening, phase_of, owned_by, held_by, shape_of};
+ghost use Rattle.epoch_manager.specs.Managers.{plan_of, opening_of, pass_opening, phase_of, owned_by, held_by, shape_of};
+
+mod borrowing;
+mod callers;
+mod calls;
+mod closings;
+mod crowds;
+mod homes;
+mod rows;
+mod scripts;
+mod vectors;
 
 use super::*;
 use epoch_table::Client;
 use pass_book::Object;
 use pgas_base::{Ptr, Shape, ShapeFault, Spot, Start};
+use std::alloc::Global;
 use std::sync::Wait;
+use std::test::Fail;
 
-fn shape(tokens: u32) -> Shape
+pub(crate) fn shape(tokens: u32) -> Shape
     ensures { result ≡ record { locales = 2; tokens = tokens; objects = 3; width = 2 } }
 {
     Shape {
@@ -57,36 +69,8 @@ fn the_first_limit_that_is_broken_is_told(rt: HostRuntime) {
     }
 }
 
-// The calls of two callers on one token, and the replies.
-fn share_a_token(
-    manager: &Manager<Cells>,
-    first: &mut Pass<Cells>,
-    second: &mut Pass<Cells>,
-) -> [bool; 4]
-    requires first { pass_opening first.old ≡ opening_of manager.now }
-    requires second { pass_opening second.old ≡ opening_of manager.now }
-    requires idle { phase_of first.old ≡ Phase.Idle }
-    requires other { phase_of second.old ≡ Phase.Idle }
-    requires locales { (shape_of manager.now).locales ≡ 2 }
-{
-    let one = manager.register(first, 0).is_ok();
-    let full = manager.register(second, 0).is_err();
-    if let Phase::Registered { .. } = first.phase() {
-        manager.pin(first);
-        manager.unpin(first);
-        manager.unregister(first);
-    }
-    let note = manager.note(first);
-    manager.learn(second, note);
-    if let Phase::Idle = second.phase() {
-        let two = manager.register(second, 0).is_ok();
-        return [one, full, two, first.phase() == Phase::Idle];
-    }
-    [one, full, false, false]
-}
-
 // The last of the passes.
-fn take_pass(manager: &Manager<Cells>, passes: &mut Vec<Pass<Cells>>) -> Option<Pass<Cells>>
+pub(crate) fn take_pass(manager: &Manager<Cells>, passes: &mut Vec<Pass<Cells>>) -> Option<Pass<Cells>>
     requires opening { AreOfOpening cells_terms manager.now passes.old.items }
     requires idle { All IsIdlePass passes.old.items }
     ensures opening { AreOfOpening cells_terms manager.now passes.new.items }
@@ -95,65 +79,6 @@ fn take_pass(manager: &Manager<Cells>, passes: &mut Vec<Pass<Cells>>) -> Option<
     ensures its_phase { IfSome result (λ p. phase_of p ≡ Phase.Idle) }
 {
     passes.pop()
-}
-
-#[test]
-fn a_token_is_one_callers_at_a_time(rt: HostRuntime) {
-    let (manager, mut passes) = Manager::open(
-        rt.alloc(),
-        shape(1),
-        Start::usual(),
-        2,
-        Cells::new(1),
-    ).expect(&rt, "memory");
-    let Some(mut second) = take_pass(&manager, &mut passes) else {
-        return;
-    };
-    let Some(mut first) = take_pass(&manager, &mut passes) else {
-        return;
-    };
-    assert_eq!(rt; (first.caller(), second.caller()), (0, 1));
-    let replies = share_a_token(&manager, &mut first, &mut second);
-    assert_eq!(rt; replies, [true; 4]);
-}
-
-// Closes the manager, once more where there was no memory.
-fn close_again(
-    manager: Manager<Cells>,
-    passes: Vec<Pass<Cells>>,
-) -> Result<Closed<Cells>, ManagerBack<Cells>>
-    requires opening { AreOfOpening cells_terms manager passes.items }
-    requires count { length passes.items ≡ callers_of manager }
-{
-    match manager.close(passes) {
-        Ok(closed) => Ok(closed),
-        Err(ManagerBack { manager, passes }) => manager.close(passes),
-    }
-}
-
-fn are_zeros(words: Vec<u64>, many: usize) -> bool {
-    let mut zeros = words.len() == many;
-    for word in words {
-        zeros &= word == 0;
-    }
-    zeros
-}
-
-// Each object's header and next word stand in the table beside its row, and are no 0.
-#[test]
-fn a_closed_manager_gives_its_words_and_rows(rt: HostRuntime) {
-    let (manager, passes) = Manager::open(
-        rt.alloc(),
-        shape(1),
-        Start::usual(),
-        2,
-        Cells::new(5),
-    ).expect(&rt, "memory");
-    let zeros = match close_again(manager, passes) {
-        Ok(closed) => are_zeros(closed.words, 5) && are_zeros(closed.rows, 12),
-        Err(_) => false,
-    };
-    assert!(rt; zeros);
 }
 
 // An object that has no calls.
@@ -254,20 +179,26 @@ fn steps_on_a_word(manager: &Manager<Plain>, pass: &mut Pass<Plain>) -> [u64; 6]
     [looked, switched, kept, traded, raised, last]
 }
 
+// Opens a manager for one caller, and once more where memory was refused.
+fn open_plain(alloc: Global) -> Result<(Manager<Plain>, Vec<Pass<Plain>>), OpenFault>
+    ensures opening { IfOk result (λ r. All (λ p. pass_opening p ≡ opening_of r.0) r.1.items) }
+    ensures words { IfOk result (λ r. (plan_of r.0).own ≡ 4) }
+{
+    match Manager::open(alloc, shape(1), Start::usual(), 1, Plain) {
+        Err(OpenFault::OutOfMemory) => Manager::open(alloc, shape(1), Start::usual(), 1, Plain),
+        answer => answer,
+    }
+}
+
 #[test]
-fn steps_answer_what_stood_in_the_word(rt: HostRuntime) {
-    let (manager, mut passes) = Manager::open(
-        rt.alloc(),
-        shape(1),
-        Start::usual(),
-        1,
-        Plain,
-    ).expect(&rt, "memory");
+fn steps_answer_what_stood_in_the_word(rt: HostRuntime) -> Result<(), Fail> {
+    let (manager, mut passes) = open_plain(rt.alloc())?;
     let Some(mut pass) = passes.pop() else {
-        return;
+        return Err("no pass".into());
     };
     let answers = steps_on_a_word(&manager, &mut pass);
     assert_eq!(rt; answers, [5, 5, 7, 7, u64::MAX, 1]);
+    Ok(())
 }
 
 fn first_cell() -> Spot
@@ -276,48 +207,8 @@ fn first_cell() -> Spot
     Spot::Own { word: 0 }
 }
 
-// What a pinned caller finds in a cell: what a hold of it answers, how many objects are then held, what stands in the row of the one
-// that is held, and what a switch of the cell to empty answers.
-fn look_into_a_cell(manager: &Manager<Cells>, pass: &mut Pass<Cells>) -> (Option<u64>, u32, u64)
-    requires pass { pass_opening pass.old ≡ opening_of manager.now }
-    requires phase { (token : Token) × (phase_of pass.old ≡ Phase.Pinned token) }
-    requires room { length (held_by pass.old) < 4 }
-    requires cells { 0 < (plan_of manager.now).own }
-    requires width { 0 < (shape_of manager.now).width }
-{
-    let row = match manager.hold(pass, first_cell()) {
-        Some(ptr) => Some(manager.read(pass, ptr, 0)),
-        None => None,
-    };
-    let held = pass.held();
-    let switched = manager.switch(pass, first_cell(), 0);
-    (row, held, switched)
-}
-
-#[test]
-fn an_empty_cell_names_no_object(rt: HostRuntime) {
-    let (manager, mut passes) = Manager::open(
-        rt.alloc(),
-        shape(1),
-        Start::usual(),
-        1,
-        Cells::new(1),
-    ).expect(&rt, "memory");
-    let Some(mut pass) = take_pass(&manager, &mut passes) else {
-        return;
-    };
-    assert_eq!(rt; pass.held(), 0);
-    let _ = manager.register(&mut pass, 0);
-    if let Phase::Registered { .. } = pass.phase() {
-        manager.pin(&mut pass);
-        if pass.held() < 4 {
-            assert_eq!(rt; look_into_a_cell(&manager, &mut pass), (None, 0, 0));
-        }
-    }
-}
-
 // Shows an object of the caller's own, and switches it into the first cell.
-fn put_into_a_cell(manager: &Manager<Cells>, pass: &mut Pass<Cells>, ptr: Ptr) -> u64
+pub(crate) fn put_into_a_cell(manager: &Manager<Cells>, pass: &mut Pass<Cells>, ptr: Ptr) -> u64
     requires opening { pass_opening pass.old ≡ opening_of manager.now }
     requires owned { Contains (owned_by pass.old) ptr }
     requires cells { 0 < (plan_of manager.now).own }
@@ -331,7 +222,7 @@ fn put_into_a_cell(manager: &Manager<Cells>, pass: &mut Pass<Cells>, ptr: Ptr) -
 }
 
 // Empties the first cell, and defers what stood there. Whether an object did.
-fn defer_what_a_cell_names(manager: &Manager<Cells>, pass: &mut Pass<Cells>) -> bool
+pub(crate) fn defer_what_a_cell_names(manager: &Manager<Cells>, pass: &mut Pass<Cells>) -> bool
     requires opening { pass_opening pass.old ≡ opening_of manager.now }
     requires phase { (token : Token) × (phase_of pass.old ≡ Phase.Pinned token) }
     requires cells { 0 < (plan_of manager.now).own }
@@ -375,18 +266,27 @@ fn through_a_cell(
     Some((before, first, second, deferred))
 }
 
+// Opens a manager of one cell for one caller, and once more where memory was refused.
+fn open_cell(alloc: Global) -> Result<(Manager<Cells>, Vec<Pass<Cells>>), OpenFault>
+    ensures opening { IfOk result (λ r. AreOfOpening cells_terms r.0 r.1.items) }
+    ensures idle { IfOk result (λ r. All IsIdlePass r.1.items) }
+    ensures shape { IfOk result (λ r. shape_of r.0 ≡ record { locales = 2; tokens = 1; objects = 3; width = 2 }) }
+    ensures cells { IfOk result (λ r. (plan_of r.0).own ≡ 1) }
+{
+    let one = Cells::new(1);
+    match Manager::open(alloc, shape(1), Start::usual(), 1, one) {
+        Err(OpenFault::OutOfMemory) => Manager::open(alloc, shape(1), Start::usual(), 1, one),
+        answer => answer,
+    }
+}
+
 #[test]
-fn a_cell_leads_to_what_its_object_was_filled_with(rt: HostRuntime) {
-    let (manager, mut passes) = Manager::open(
-        rt.alloc(),
-        shape(1),
-        Start::usual(),
-        1,
-        Cells::new(1),
-    ).expect(&rt, "memory");
+fn a_cell_leads_to_what_its_object_was_filled_with(rt: HostRuntime) -> Result<(), Fail> {
+    let (manager, mut passes) = open_cell(rt.alloc())?;
     let Some(mut pass) = take_pass(&manager, &mut passes) else {
-        return;
+        return Err("no pass".into());
     };
+    assert_eq!(rt; (pass.caller(), pass.held()), (0, 0));
     let _ = manager.register(&mut pass, 0);
     if let Phase::Registered { .. } = pass.phase() {
         manager.pin(&mut pass);
@@ -395,287 +295,5 @@ fn a_cell_leads_to_what_its_object_was_filled_with(rt: HostRuntime) {
             assert_eq!(rt; found, Some((0, 7, 8, true)));
         }
     }
-}
-
-#[test]
-fn a_take_begins_with_the_locale_asked_for(rt: HostRuntime) {
-    let (manager, mut passes) = Manager::open(
-        rt.alloc(),
-        shape(1),
-        Start::usual(),
-        1,
-        Cells::new(1),
-    ).expect(&rt, "memory");
-    let Some(mut pass) = take_pass(&manager, &mut passes) else {
-        return;
-    };
-    let word = match manager.take(&rt, &mut pass, 1) {
-        Ok(ptr) => Some(ptr.word()),
-        Err(_) => None,
-    };
-    assert_eq!(rt; word, Some(Ptr::new(1, 1, 0).word()));
-}
-
-// Takes of a caller that asks at locale 0, puts the object into a cell, asks there again, gives that one back, and asks at
-// locale 1 twice: the words of the objects, and the fault of the last.
-fn borrow_objects(
-    rt: &impl Wait,
-    manager: &Manager<Cells>,
-    pass: &mut Pass<Cells>,
-) -> Option<([u64; 3], Option<TakeFault>)>
-    requires opening { pass_opening pass.old ≡ opening_of manager.now }
-    requires cells { 0 < (plan_of manager.now).own }
-    requires locales { 1 < (shape_of manager.now).locales }
-{
-    let Ok(first) = manager.take(rt, pass, 0) else {
-        return None;
-    };
-    put_into_a_cell(manager, pass, first);
-    let Ok(second) = manager.take(rt, pass, 0) else {
-        return None;
-    };
-    manager.give_back(pass, second);
-    let Ok(third) = manager.take(rt, pass, 1) else {
-        return None;
-    };
-    let fault = manager.take(rt, pass, 1).err();
-    Some(([first.word(), second.word(), third.word()], fault))
-}
-
-#[test]
-fn a_locale_without_a_free_object_borrows_from_the_next(rt: HostRuntime) {
-    let small = Shape {
-        objects: 1,
-        ..shape(1)
-    };
-    let (manager, mut passes) = Manager::open(
-        rt.alloc(),
-        small,
-        Start::usual(),
-        1,
-        Cells::new(1),
-    ).expect(&rt, "memory");
-    let Some(mut pass) = take_pass(&manager, &mut passes) else {
-        return;
-    };
-    let there = Ptr::new(1, 1, 0).word();
-    let here = Ptr::new(0, 1, 0).word();
-    let full = Some(TakeFault::NoRoom { locale: 1 });
-    let borrowed = borrow_objects(&rt, &manager, &mut pass);
-    assert_eq!(rt; borrowed, Some(([here, there, there], full)));
-}
-
-// A reclaim and one more, while another caller stays pinned.
-fn reclaim_behind_a_pin(
-    manager: &Manager<Cells>,
-    reader: &mut Pass<Cells>,
-    other: &mut Pass<Cells>,
-) -> [Option<Result<Advanced, NotNow>>; 2]
-    requires first { pass_opening reader.old ≡ opening_of manager.now }
-    requires second { pass_opening other.old ≡ opening_of manager.now }
-    requires idle { phase_of reader.old ≡ Phase.Idle }
-    requires other { phase_of other.old ≡ Phase.Idle }
-    requires locales { (shape_of manager.now).locales ≡ 2 }
-{
-    let _ = manager.register(reader, 0);
-    let _ = manager.register(other, 1);
-    if let Phase::Registered { .. } = reader.phase() {
-        manager.pin(reader);
-    }
-    if let Phase::Registered { .. } = other.phase() {
-        let first = manager.try_reclaim(other);
-        let second = manager.try_reclaim(other);
-        return [Some(first), Some(second)];
-    }
-    [None, None]
-}
-
-#[test]
-fn a_pin_stops_the_second_reclaim_after_it(rt: HostRuntime) {
-    let (manager, mut passes) = Manager::open(
-        rt.alloc(),
-        shape(1),
-        Start::usual(),
-        2,
-        Cells::new(1),
-    ).expect(&rt, "memory");
-    let Some(mut other) = take_pass(&manager, &mut passes) else {
-        return;
-    };
-    let Some(mut reader) = take_pass(&manager, &mut passes) else {
-        return;
-    };
-    let replies = reclaim_behind_a_pin(&manager, &mut reader, &mut other);
-    let first = Ok(Advanced { epoch: 2, freed: 0 });
-    let second = Err(NotNow::Held {
-        locale: 0,
-        token: 0,
-        word: 3,
-    });
-    assert_eq!(rt; replies, [Some(first), Some(second)]);
-}
-
-// How many objects a reclaim frees.
-fn freed_by(manager: &Manager<Cells>, pass: &mut Pass<Cells>) -> Option<u32>
-    requires opening { pass_opening pass.old ≡ opening_of manager.now }
-    requires phase { (token : Token) × (phase_of pass.old ≡ Phase.Registered token) }
-    ensures opening { pass_opening pass.new ≡ pass_opening pass.old }
-    ensures phase { phase_of pass.new ≡ phase_of pass.old }
-{
-    match manager.try_reclaim(pass) {
-        Ok(advanced) => Some(advanced.freed),
-        Err(_) => None,
-    }
-}
-
-// Puts an object into a cell, cuts it out again and defers it. Whether there was one.
-fn defer_an_object(rt: &impl Wait, manager: &Manager<Cells>, pass: &mut Pass<Cells>) -> bool
-    requires opening { pass_opening pass.old ≡ opening_of manager.now }
-    requires phase { (token : Token) × (phase_of pass.old ≡ Phase.Registered token) }
-    requires cells { 0 < (plan_of manager.now).own }
-    requires locales { 0 < (shape_of manager.now).locales }
-    ensures opening { pass_opening pass.new ≡ pass_opening pass.old }
-    ensures phase { (token : Token) × (phase_of pass.new ≡ Phase.Registered token) }
-{
-    let Ok(ptr) = manager.take(rt, pass, 0) else {
-        return false;
-    };
-    manager.pin(pass);
-    put_into_a_cell(manager, pass, ptr);
-    defer_what_a_cell_names(manager, pass);
-    manager.unpin(pass);
-    true
-}
-
-// Defers an object. How many objects each of the next reclaims frees, and the word of the object that is then taken.
-fn free_an_object(
-    rt: &impl Wait,
-    manager: &Manager<Cells>,
-    pass: &mut Pass<Cells>,
-) -> Option<([Option<u32>; 3], u64)>
-    requires opening { pass_opening pass.old ≡ opening_of manager.now }
-    requires phase { (token : Token) × (phase_of pass.old ≡ Phase.Registered token) }
-    requires cells { 0 < (plan_of manager.now).own }
-    requires locales { 0 < (shape_of manager.now).locales }
-{
-    if !defer_an_object(rt, manager, pass) {
-        return None;
-    }
-    let first = freed_by(manager, pass);
-    let second = freed_by(manager, pass);
-    let third = freed_by(manager, pass);
-    let Ok(again) = manager.take(rt, pass, 0) else {
-        return None;
-    };
-    Some(([first, second, third], again.word()))
-}
-
-// An object is freed by the third advance after its deferral, and comes back with one count more.
-#[test]
-fn a_deferred_object_is_freed_and_comes_again(rt: HostRuntime) {
-    let small = Shape {
-        locales: 1,
-        tokens: 1,
-        objects: 1,
-        width: 2,
-    };
-    let (manager, mut passes) = Manager::open(
-        rt.alloc(),
-        small,
-        Start::usual(),
-        1,
-        Cells::new(1),
-    ).expect(&rt, "memory");
-    let Some(mut pass) = take_pass(&manager, &mut passes) else {
-        return;
-    };
-    let _ = manager.register(&mut pass, 0);
-    if let Phase::Registered { .. } = pass.phase() {
-        let freed = free_an_object(&rt, &manager, &mut pass);
-        let again = Ptr::new(0, 1, 1).word();
-        assert_eq!(rt; freed, Some(([Some(0), Some(0), Some(1)], again)));
-    }
-}
-
-// Defers so many objects. Whether there were as many.
-fn defer_objects(
-    rt: &impl Wait,
-    manager: &Manager<Cells>,
-    pass: &mut Pass<Cells>,
-    many: u32,
-) -> bool
-    requires opening { pass_opening pass.old ≡ opening_of manager.now }
-    requires phase { (token : Token) × (phase_of pass.old ≡ Phase.Registered token) }
-    requires cells { 0 < (plan_of manager.now).own }
-    requires locales { 0 < (shape_of manager.now).locales }
-    ensures opening { pass_opening pass.new ≡ pass_opening pass.old }
-    ensures phase { (token : Token) × (phase_of pass.new ≡ Phase.Registered token) }
-{
-    for _ in 0..many {
-        if !defer_an_object(rt, manager, pass) {
-            return false;
-        }
-    }
-    true
-}
-
-// Takes objects, up to so many. How many of them had been freed once.
-fn take_freed(rt: &impl Wait, manager: &Manager<Cells>, pass: &mut Pass<Cells>, many: u32) -> u32
-    requires opening { pass_opening pass.old ≡ opening_of manager.now }
-    requires locales { 0 < (shape_of manager.now).locales }
-{
-    let mut freed = 0;
-    for _ in 0..many {
-        let Ok(ptr) = manager.take(rt, pass, 0) else {
-            return freed;
-        };
-        if ptr.count() == 1 {
-            freed += 1;
-        }
-    }
-    freed
-}
-
-// Frees 45 objects, 40 of them of one home. How many the third reclaim frees, and how many of all 80 were freed once.
-fn free_many(
-    rt: &impl Wait,
-    manager: &Manager<Cells>,
-    pass: &mut Pass<Cells>,
-) -> Option<(Option<u32>, u32)>
-    requires opening { pass_opening pass.old ≡ opening_of manager.now }
-    requires phase { (token : Token) × (phase_of pass.old ≡ Phase.Registered token) }
-    requires cells { 0 < (plan_of manager.now).own }
-    requires locales { 0 < (shape_of manager.now).locales }
-{
-    if !defer_objects(rt, manager, pass, 45) {
-        return None;
-    }
-    freed_by(manager, pass);
-    freed_by(manager, pass);
-    let freed = freed_by(manager, pass);
-    Some((freed, take_freed(rt, manager, pass, 80)))
-}
-
-// One reclaim hands home more objects of one locale than go home together, and some of another, and none is lost.
-#[test]
-fn objects_of_two_homes_that_are_freed_together_all_come_again(rt: HostRuntime) {
-    let large = Shape {
-        objects: 40,
-        ..shape(1)
-    };
-    let (manager, mut passes) = Manager::open(
-        rt.alloc(),
-        large,
-        Start::usual(),
-        1,
-        Cells::new(1),
-    ).expect(&rt, "memory");
-    let Some(mut pass) = take_pass(&manager, &mut passes) else {
-        return;
-    };
-    let _ = manager.register(&mut pass, 0);
-    if let Phase::Registered { .. } = pass.phase() {
-        let freed = free_many(&rt, &manager, &mut pass);
-        assert_eq!(rt; freed, Some((Some(45), 45)));
-    }
+    Ok(())
 }

@@ -192,6 +192,7 @@ module _ {C O Slot Call Reply State Plan Part Name : Type 0} (T : Terms Slot Cal
         many = last.3;
         home = last.4;
         parts = is.parts;
+        told = λ k p below. (page_in d s is id v here role (get_or passes k p) (gathered k p below)).1;
         rest = λ c below.
             let one = contained (λ (p : Pass Slot Call Reply Plan Part Name). caller_of p) (λ p. Gathered v p) passes c gathered (every c below) in
             let has = page_in d s is id v here role one.0 one.1 in

@@ -25,7 +25,7 @@ AreOfAllCallers {Slot} {Call} {Reply} {Plan} {Part} {Name} callers passes =
 
 module _ {C O Slot Plan Part Name Call Reply State : Type 0} (T : Terms Slot Call Reply State Plan Part Name) (opens : State → Type 0) (step : State → Call → Reply → State → Type 0) where
   -- There is the book of the object, legal by the plain object's steps, in which each pass has its page. The passes are those of all callers: no two
-  -- are the same caller's. The object's rule holds of the words and of the slots, as of the history, where each caller is between two calls
+  -- are the same caller's. The object's rule holds of the words and of the slots, as of the history, where each caller is between two calls and knows what its pass does
   pub record ClosesWith (d : PassTable C O Slot Plan Part Name Call Reply State) (passes : List (Pass Slot Call Reply Plan Part Name)) (words : List ℕ) (slots : List Slot) : Type 0 where
     pub book : Book Call Reply State
     pub legal : IsBook opens step book
@@ -37,5 +37,6 @@ module _ {C O Slot Plan Part Name Call Reply State : Type 0} (T : Terms Slot Cal
     pub many : length homes ≡ length slots
     pub home : (k : ℕ) (y : Slot) → get_elem? homes k ≡ some (some y) → get_elem? slots k ≡ some y
     pub parts : ℕ → Part
+    pub told : All (λ p. parts (caller_of p) ≡ (pass_view p).part) passes
     pub rest : (c : ℕ) → c < T.callers (plan_of d) → T.rests (parts c) ≡ true
     pub rule : T.holds (plan_of d) record { words = words; homes = homes; history = book.history; parts = parts }

@@ -1,6 +1,6 @@
 use Rattle.std.proofs.Common.{◌≡◌, ◌≤◌}
 use Rattle.epoch_manager.specs.Managers.{pass_opening}
-use Rattle.epoch_manager.proofs.tests.take_freed.Given as goal
+use Rattle.epoch_manager.proofs.tests.homes.take_freed.Given as goal
 
 abbrev pub invariant-loop : goal.invariant-loop
 invariant-loop g l = record {

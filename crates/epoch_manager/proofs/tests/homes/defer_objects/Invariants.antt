@@ -2,7 +2,7 @@ use Rattle.std.proofs.Common.{◌≡◌}
 use Rattle.epoch_laws.specs.declared.tokens.Token.{Token}
 use Rattle.epoch_manager.specs.declared.phases.Phase.TheVariants.{Registered}
 use Rattle.epoch_manager.specs.Managers.{pass_opening, phase_of}
-use Rattle.epoch_manager.proofs.tests.defer_objects.Given as goal
+use Rattle.epoch_manager.proofs.tests.homes.defer_objects.Given as goal
 
 abbrev pub invariant-loop : goal.invariant-loop
 invariant-loop g l = record {
