@@ -1,4 +1,5 @@
 pub mod Places
+pub mod Strides
 pub mod Deeds
 pub mod Knowledge
 pub mod Keeps

@@ -1,8 +1,9 @@
 -- Where the words of a manager stand in its table.
 -- The two global words come first. Then each locale has five cache lines: its epoch, its election, its four lists, the head of its stack and that of its
 -- home chain. Then each token has a line. Then each object has its header, its next word and its row. Then each word of the client has a line.
-use Rattle.std.specs.Prelude.{ℕ, ◌+◌, ◌-◌, ◌*◌, ◌/◌, ◌%◌, ◌<◌, ltb, if◌then◌else◌}
+use Rattle.std.specs.Prelude.{◌≡◌, ℕ, ◌+◌, ◌-◌, ◌*◌, ◌/◌, ◌%◌, ◌^◌, ◌<◌, ltb, if◌then◌else◌}
 use Rattle.pgas_base.specs.declared.shapes.Shape.{Shape}
+use Rattle.pgas_base.specs.Shapes.{IsShape}
 use Rattle.pgas_base.specs.declared.spots.Spot.{Spot}
 use Rattle.pgas_base.specs.declared.spots.Spot.TheVariants.{Own as OwnSpot, Row as RowSpot}
 use Rattle.epoch_laws.specs.Places.{Place, place_of}
@@ -42,6 +43,16 @@ module _ (shape : Shape) where
 
   abbrev pub client_place : ℕ
   client_place = objects_place + shape.locales * shape.objects * (shape.width + 2)
+
+  -- so many words on the tokens, the objects and the client's words begin, and so many words have an object and all objects of a locale
+  pub record IsLaidOut (tokens objects client object_words locale_words : ℕ) : Type 0 where
+    pub is_shape : IsShape shape
+    pub tokens_begin : tokens ≡ tokens_place
+    pub objects_begin : objects ≡ objects_place
+    pub client_begins : client ≡ client_place
+    pub low : client < 2 ^ 32
+    pub of_object : object_words ≡ shape.width + 2
+    pub of_locale : locale_words ≡ shape.objects * (shape.width + 2)
 
   -- how many words the table has, with so many of the client's
   abbrev pub table_words : ℕ → ℕ

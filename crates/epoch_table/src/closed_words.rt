@@ -5,7 +5,7 @@ ghost use Rattle.pgas_base.specs.Shapes.{IsShape};
 ghost use Rattle.epoch_laws.specs.States.{IsPlace};
 ghost use Rattle.epoch_table.specs.Layout.{InRow, OfClient, place, client_place, table_words};
 
-use crate::layout::{header_at, own_at};
+use crate::layout::Layout;
 use atomic_table::Closed;
 use pgas_base::Shape;
 use std::alloc::Global;
@@ -16,7 +16,7 @@ pub fn client_word(closed: &Closed<(), Global>, shape: &Shape, word: u32) -> u64
     requires words { IsFull closed.now.words × (table_words shape.now (word + 1) ≤ slots_len closed.now.words) }
     ensures { result ≡ slice_index (slots_items closed.now.words) (place shape.now (OfClient word)) }
 {
-    closed.word(own_at(shape, word))
+    closed.word(Layout::of(*shape).own_at(word))
 }
 
 /// A word in the row of an object.
@@ -27,5 +27,5 @@ pub fn row_word(closed: &Closed<(), Global>, shape: &Shape, locale: u8, index: u
     requires words { IsFull closed.now.words × (client_place shape.now ≤ slots_len closed.now.words) }
     ensures { result ≡ slice_index (slots_items closed.now.words) (place shape.now (InRow record { locale = locale; index = index } at)) }
 {
-    closed.word(header_at(shape, locale, index) + 2 + at as usize)
+    closed.word(Layout::of(*shape).header_at(locale, index) + 2 + at as usize)
 }

@@ -6,7 +6,7 @@ ghost use Rattle.pass_table.specs.Passes.{IsSeatOf, plan_of, view_of, me_of};
 ghost use Rattle.epoch_table.specs.Kinds.{MayMake, Makes};
 
 use crate::clients::Client;
-use crate::layout::{epoch_at, list_at, next_at};
+use crate::layout::{epoch_at, list_at};
 use crate::words::{TableSeat, Words};
 use epoch_laws::Kind;
 use pgas_base::Ptr;
@@ -49,7 +49,7 @@ impl<C: Client> Words<C> {
         ensures seat { IsSeatOf self.now.table seat.new }
         ensures makes { Makes C.terms C.Object.opens C.Object.step (plan_of self.now.table) Kind.DeferLink (me_of seat.old) old (me_of seat.new) }
     {
-        let at = next_at(&self.shape, ptr.locale(), ptr.index());
+        let at = self.shape.next_at(ptr.locale(), ptr.index());
         self.store::<Brand>(seat, at, old, Kind::DeferLink);
     }
 }

@@ -5,7 +5,6 @@ ghost use Rattle.epoch_table.specs.Holds.{MayHold, HoldsAt};
 
 use crate::clients::Client;
 use crate::kinds::{Held, SpotChoice};
-use crate::layout::spot_at;
 use crate::words::{TableSeat, Words};
 use pgas_base::Spot;
 use std::marker::Brand;
@@ -30,7 +29,7 @@ impl<C: Client> Words<C> {
         ensures seat { IsSeatOf self.now.table seat.new }
         ensures holds { HoldsAt C.terms C.Object.opens C.Object.step (plan_of self.now.table) spot (me_of seat.old) result (me_of seat.new) }
     {
-        let at = spot_at(&self.shape, spot);
+        let at = self.shape.spot_at(spot);
         self.table.load::<Held<W>>(seat, at)
     }
 }

@@ -6,7 +6,7 @@ ghost use Rattle.pass_table.specs.Passes.{IsSeatOf, plan_of, view_of, me_of};
 ghost use Rattle.epoch_table.specs.Kinds.{MayMake, Makes};
 
 use crate::clients::Client;
-use crate::layout::{home_at, next_at};
+use crate::layout::home_at;
 use crate::words::{TableSeat, Words};
 use epoch_laws::Kind;
 use pgas_base::Ptr;
@@ -22,7 +22,7 @@ impl<C: Client> Words<C> {
         ensures seat { IsSeatOf self.now.table seat.new }
         ensures makes { Makes C.terms C.Object.opens C.Object.step (plan_of self.now.table) (Kind.HandLink ptr next) (me_of seat.old) next (me_of seat.new) }
     {
-        let at = next_at(&self.shape, ptr.locale(), ptr.index());
+        let at = self.shape.next_at(ptr.locale(), ptr.index());
         self.store::<Brand>(seat, at, next, Kind::HandLink { ptr, next });
     }
 
@@ -50,7 +50,7 @@ impl<C: Client> Words<C> {
         ensures seat { IsSeatOf self.now.table seat.new }
         ensures makes { Makes C.terms C.Object.opens C.Object.step (plan_of self.now.table) Kind.HomeLink (me_of seat.old) old (me_of seat.new) }
     {
-        let at = next_at(&self.shape, locale, index);
+        let at = self.shape.next_at(locale, index);
         self.store::<Brand>(seat, at, old, Kind::HomeLink);
     }
 
@@ -76,6 +76,6 @@ impl<C: Client> Words<C> {
         ensures seat { IsSeatOf self.now.table seat.new }
         ensures makes { Makes C.terms C.Object.opens C.Object.step (plan_of self.now.table) Kind.HomeWalk (me_of seat.old) result (me_of seat.new) }
     {
-        self.load::<Brand>(seat, next_at(&self.shape, locale, index), Kind::HomeWalk)
+        self.load::<Brand>(seat, self.shape.next_at(locale, index), Kind::HomeWalk)
     }
 }

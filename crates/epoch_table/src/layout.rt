@@ -14,6 +14,7 @@ ghost use Rattle.epoch_table.specs.Layout.{InRow, OfClient, IsSite, site_of, pla
 
 use epoch_laws::Token;
 use pgas_base::{Ptr, Shape, Spot};
+use std::marker::Model;
 
 /// The words of one cache line.
 pub(crate) const LINE: usize = 8;
@@ -74,16 +75,6 @@ pub(crate) fn home_at(locale: u8) -> usize
     locale_at(locale) + 4 * LINE
 }
 
-#[inline]
-pub(crate) fn token_at(shape: &Shape, token: Token) -> usize
-    requires shape { IsShape shape.now }
-    requires token { IsToken shape.now.locales shape.now.tokens token }
-    ensures { result ≡ named_place shape.now (word_of_token token) }
-{
-    let number = token.locale as usize * shape.tokens as usize + token.number as usize;
-    tokens_at(shape) + number * LINE
-}
-
 /// Where the tokens begin.
 #[inline]
 pub(crate) fn tokens_at(shape: &Shape) -> usize
@@ -112,55 +103,103 @@ pub(crate) fn client_at(shape: &Shape) -> usize
     objects_at(shape) + shape.locales as usize * shape.objects as usize * (shape.width as usize + 2)
 }
 
-// The place of a word of the client's.
-#[inline]
-pub(crate) fn own_at(shape: &Shape, word: u32) -> usize
-    requires { IsShape shape.now }
-    ensures { result ≡ place shape.now (OfClient word) }
-{
-    client_at(shape) + word as usize * LINE
+/// A shape with where its parts begin and how many words they have, worked out once: so that a step finds its word by a
+/// product or two. Contracts see the shape.
+#[derive(Debug, Drop)]
+pub(crate) struct Layout {
+    shape: Shape,
+    tokens: usize,
+    objects: usize,
+    client: usize,
+    // The words of an object, and those of all objects of a locale.
+    object_words: usize,
+    locale_words: usize,
 }
 
-// The first word of an object, which is its header.
-#[inline]
-pub(crate) fn header_at(shape: &Shape, locale: u8, index: u32) -> usize
-    requires shape { IsShape shape.now }
-    requires place { IsPlace shape.now record { locale = locale; index = index } }
-    ensures { result ≡ named_place shape.now (header_of record { locale = locale; index = index }) }
-{
-    let number = locale as usize * shape.objects as usize + (index as usize - 1);
-    objects_at(shape) + number * (shape.width as usize + 2)
+impl Model for Layout {
+    ghost use Rattle.pgas_base.specs.declared.shapes.Shape.{Shape};
+    ghost use Rattle.epoch_table.specs.Layout.{IsLaidOut};
+
+    ghost Value = { Shape };
+
+    ghost view = { λ l. l.shape };
+
+    ghost invariant = { λ l. IsLaidOut l.shape l.tokens l.objects l.client l.object_words l.locale_words };
 }
 
-#[inline]
-pub(crate) fn next_at(shape: &Shape, locale: u8, index: u32) -> usize
-    requires shape { IsShape shape.now }
-    requires place { IsPlace shape.now record { locale = locale; index = index } }
-    ensures { result ≡ named_place shape.now (next_of record { locale = locale; index = index }) }
-{
-    header_at(shape, locale, index) + 1
-}
+impl Layout {
+    /// The layout of a shape.
+    pub(crate) fn of(shape: Shape) -> Layout
+        requires { IsShape shape }
+        ensures { result ≡ shape }
+    {
+        let object_words = shape.width as usize + 2;
+        Layout {
+            shape,
+            tokens: tokens_at(&shape),
+            objects: objects_at(&shape),
+            client: client_at(&shape),
+            object_words,
+            locale_words: shape.objects as usize * object_words,
+        }
+    }
 
-// A word in the row of an object.
-#[inline]
-pub(crate) fn row_at(shape: &Shape, ptr: Ptr, at: u32) -> usize
-    requires shape { IsShape shape.now }
-    requires place { IsPlace shape.now (place_of ptr) }
-    requires at { at < shape.now.width }
-    ensures { result ≡ place shape.now (InRow (place_of ptr) at) }
-{
-    header_at(shape, ptr.locale(), ptr.index()) + 2 + at as usize
-}
+    #[inline]
+    pub(crate) fn token_at(&self, token: Token) -> usize
+        requires { IsToken self.now.locales self.now.tokens token }
+        ensures { result ≡ named_place self.now (word_of_token token) }
+    {
+        let number = token.locale as usize * self.shape.tokens as usize + token.number as usize;
+        self.tokens + number * LINE
+    }
 
-// The place of a spot.
-#[inline]
-pub(crate) fn spot_at(shape: &Shape, spot: Spot) -> usize
-    requires shape { IsShape shape.now }
-    requires site { IsSite shape.now (site_of spot) }
-    ensures { result ≡ place shape.now (site_of spot) }
-{
-    match spot {
-        Spot::Own { word } => own_at(shape, word),
-        Spot::Row { ptr, at } => row_at(shape, ptr, at),
+    // The place of a word of the client's.
+    #[inline]
+    pub(crate) fn own_at(&self, word: u32) -> usize
+        ensures { result ≡ place self.now (OfClient word) }
+    {
+        self.client + word as usize * LINE
+    }
+
+    // The first word of an object, which is its header.
+    #[inline]
+    pub(crate) fn header_at(&self, locale: u8, index: u32) -> usize
+        requires place { IsPlace self.now record { locale = locale; index = index } }
+        ensures value { result ≡ named_place self.now (header_of record { locale = locale; index = index }) }
+        ensures most { result + self.now.width + 1 < 2 ^ 32 }
+    {
+        self.objects
+            + locale as usize * self.locale_words
+            + (index as usize - 1) * self.object_words
+    }
+
+    #[inline]
+    pub(crate) fn next_at(&self, locale: u8, index: u32) -> usize
+        requires place { IsPlace self.now record { locale = locale; index = index } }
+        ensures { result ≡ named_place self.now (next_of record { locale = locale; index = index }) }
+    {
+        self.header_at(locale, index) + 1
+    }
+
+    // A word in the row of an object.
+    #[inline]
+    pub(crate) fn row_at(&self, ptr: Ptr, at: u32) -> usize
+        requires place { IsPlace self.now (place_of ptr) }
+        requires at { at < self.now.width }
+        ensures { result ≡ place self.now (InRow (place_of ptr) at) }
+    {
+        self.header_at(ptr.locale(), ptr.index()) + 2 + at as usize
+    }
+
+    // The place of a spot.
+    #[inline]
+    pub(crate) fn spot_at(&self, spot: Spot) -> usize
+        requires { IsSite self.now (site_of spot) }
+        ensures { result ≡ place self.now (site_of spot) }
+    {
+        match spot {
+            Spot::Own { word } => self.own_at(word),
+            Spot::Row { ptr, at } => self.row_at(ptr, at),
+        }
     }
 }

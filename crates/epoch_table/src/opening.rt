@@ -8,6 +8,7 @@ ghost use Rattle.epoch_table.specs.Layout.{table_words};
 ghost use Rattle.epoch_table.specs.Rule.{manager_terms};
 
 use crate::clients::Client;
+use crate::layout::Layout;
 use crate::opening_words::opening_words;
 use crate::parts::Plan;
 use crate::words::{TablePass, Words};
@@ -52,7 +53,7 @@ impl<C: Client> Words<C> {
         Ok((
             Words {
                 table,
-                shape,
+                shape: Layout::of(shape),
                 client,
             },
             passes,

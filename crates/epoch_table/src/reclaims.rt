@@ -6,7 +6,7 @@ ghost use Rattle.pass_table.specs.Passes.{IsSeatOf, plan_of, view_of, me_of};
 ghost use Rattle.epoch_table.specs.Kinds.{MayMake, Makes};
 
 use crate::clients::Client;
-use crate::layout::{ELECTION, EPOCH, election_at, epoch_at, token_at};
+use crate::layout::{ELECTION, EPOCH, election_at, epoch_at};
 use crate::words::{TableSeat, Words};
 use epoch_laws::{Kind, Token};
 use std::marker::Brand;
@@ -55,7 +55,7 @@ impl<C: Client> Words<C> {
         ensures seat { IsSeatOf self.now.table seat.new }
         ensures makes { Makes C.terms C.Object.opens C.Object.step (plan_of self.now.table) Kind.ScanToken (me_of seat.old) result (me_of seat.new) }
     {
-        self.load::<Brand>(seat, token_at(&self.shape, token), Kind::ScanToken)
+        self.load::<Brand>(seat, self.shape.token_at(token), Kind::ScanToken)
     }
 
     /// Stores one more than the epoch that was read as the global epoch.

@@ -9,7 +9,7 @@ ghost use Rattle.pass_table.specs.Passes.{IsSeatOf, plan_of, view_of, me_of};
 ghost use Rattle.epoch_table.specs.Kinds.{MayMake, Makes};
 
 use crate::clients::Client;
-use crate::layout::{header_at, list_at, next_at};
+use crate::layout::list_at;
 use crate::words::{TableSeat, Words};
 use epoch_laws::Kind;
 use pgas_base::Ptr;
@@ -40,7 +40,7 @@ impl<C: Client> Words<C> {
         ensures seat { IsSeatOf self.now.table seat.new }
         ensures makes { Makes C.terms C.Object.opens C.Object.step (plan_of self.now.table) Kind.Walk (me_of seat.old) result (me_of seat.new) }
     {
-        self.load::<Brand>(seat, next_at(&self.shape, locale, index), Kind::Walk)
+        self.load::<Brand>(seat, self.shape.next_at(locale, index), Kind::Walk)
     }
 
     /// Stores the header of an object that was walked over, one count higher and free, or worn with the last count. A
@@ -53,7 +53,7 @@ impl<C: Client> Words<C> {
         ensures seat { IsSeatOf self.now.table seat.new }
         ensures makes { Makes C.terms C.Object.opens C.Object.step (plan_of self.now.table) (Kind.Release ptr) (me_of seat.old) (released_word ptr.count) (me_of seat.new) }
     {
-        let at = header_at(&self.shape, ptr.locale(), ptr.index());
+        let at = self.shape.header_at(ptr.locale(), ptr.index());
         let word = released(Header {
             count: ptr.count(),
             state: State::Shown,

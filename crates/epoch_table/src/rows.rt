@@ -5,7 +5,6 @@ ghost use Rattle.epoch_table.specs.RowSteps.{MayRead, MayFill, Reads, FillsRow};
 
 use crate::clients::Client;
 use crate::kinds::{Filled, Read, RowChoice};
-use crate::layout::row_at;
 use crate::words::{TableSeat, Words};
 use pgas_base::Ptr;
 use std::marker::Brand;
@@ -41,7 +40,7 @@ impl<C: Client> Words<C> {
         ensures seat { IsSeatOf self.now.table seat.new }
         ensures reads { Reads C.terms C.Object.opens C.Object.step (plan_of self.now.table) ptr at (me_of seat.old) result (me_of seat.new) }
     {
-        let word = row_at(&self.shape, ptr, at);
+        let word = self.shape.row_at(ptr, at);
         self.table.load::<Read<W>>(seat, word)
     }
 
@@ -53,7 +52,7 @@ impl<C: Client> Words<C> {
         ensures seat { IsSeatOf self.now.table seat.new }
         ensures fills { FillsRow C.terms C.Object.opens C.Object.step (plan_of self.now.table) ptr at value (me_of seat.old) (me_of seat.new) }
     {
-        let word = row_at(&self.shape, ptr, at);
+        let word = self.shape.row_at(ptr, at);
         self.table.store::<Filled<W>>(seat, word, value);
     }
 }

@@ -7,7 +7,6 @@ ghost use Rattle.epoch_table.specs.Spots.{MayStep, StepsAt};
 
 use crate::clients::Client;
 use crate::kinds::{SpotChoice, Stepped};
-use crate::layout::spot_at;
 use crate::words::{TableSeat, Words};
 use pgas_base::Spot;
 use std::marker::Brand;
@@ -76,7 +75,7 @@ impl<C: Client> Words<C> {
         ensures seat { IsSeatOf self.now.table seat.new }
         ensures steps { StepsAt C.terms C.Object.opens C.Object.step (plan_of self.now.table) spot Looks (me_of seat.old) result (me_of seat.new) }
     {
-        let at = spot_at(&self.shape, spot);
+        let at = self.shape.spot_at(spot);
         self.table.load::<Stepped<W>>(seat, at)
     }
 
@@ -88,7 +87,7 @@ impl<C: Client> Words<C> {
         ensures seat { IsSeatOf self.now.table seat.new }
         ensures steps { StepsAt C.terms C.Object.opens C.Object.step (plan_of self.now.table) spot (Puts value) (me_of seat.old) value (me_of seat.new) }
     {
-        let at = spot_at(&self.shape, spot);
+        let at = self.shape.spot_at(spot);
         self.table.store::<Stepped<W>>(seat, at, value);
     }
 
@@ -100,7 +99,7 @@ impl<C: Client> Words<C> {
         ensures seat { IsSeatOf self.now.table seat.new }
         ensures steps { StepsAt C.terms C.Object.opens C.Object.step (plan_of self.now.table) spot (Switches value) (me_of seat.old) result (me_of seat.new) }
     {
-        let at = spot_at(&self.shape, spot);
+        let at = self.shape.spot_at(spot);
         self.table.swap::<Stepped<W>>(seat, at, value)
     }
 
@@ -118,7 +117,7 @@ impl<C: Client> Words<C> {
         ensures seat { IsSeatOf self.now.table seat.new }
         ensures steps { StepsAt C.terms C.Object.opens C.Object.step (plan_of self.now.table) spot (Trades old new) (me_of seat.old) result (me_of seat.new) }
     {
-        let at = spot_at(&self.shape, spot);
+        let at = self.shape.spot_at(spot);
         self.table
             .compare_exchange::<Stepped<W>>(seat, at, old, new)
     }
@@ -131,7 +130,7 @@ impl<C: Client> Words<C> {
         ensures seat { IsSeatOf self.now.table seat.new }
         ensures steps { StepsAt C.terms C.Object.opens C.Object.step (plan_of self.now.table) spot (Raises by) (me_of seat.old) result (me_of seat.new) }
     {
-        let at = spot_at(&self.shape, spot);
+        let at = self.shape.spot_at(spot);
         self.table.fetch_add::<Stepped<W>>(seat, at, by)
     }
 }

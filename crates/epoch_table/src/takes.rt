@@ -9,7 +9,7 @@ ghost use Rattle.pass_table.specs.Passes.{IsSeatOf, plan_of, view_of, me_of};
 ghost use Rattle.epoch_table.specs.Kinds.{MayMake, Makes};
 
 use crate::clients::Client;
-use crate::layout::{header_at, next_at, stack_at};
+use crate::layout::stack_at;
 use crate::words::{TableSeat, Words};
 use epoch_laws::Kind;
 use pgas_base::Ptr;
@@ -26,7 +26,7 @@ impl<C: Client> Words<C> {
         ensures seat { IsSeatOf self.now.table seat.new }
         ensures makes { Makes C.terms C.Object.opens C.Object.step (plan_of self.now.table) (Kind.TakeLook locale index) (me_of seat.old) result (me_of seat.new) }
     {
-        let at = header_at(&self.shape, locale, index);
+        let at = self.shape.header_at(locale, index);
         self.load::<Brand>(seat, at, Kind::TakeLook { locale, index })
     }
 
@@ -52,7 +52,7 @@ impl<C: Client> Words<C> {
         ensures seat { IsSeatOf self.now.table seat.new }
         ensures makes { Makes C.terms C.Object.opens C.Object.step (plan_of self.now.table) Kind.StackNext (me_of seat.old) result (me_of seat.new) }
     {
-        self.load::<Brand>(seat, next_at(&self.shape, locale, index), Kind::StackNext)
+        self.load::<Brand>(seat, self.shape.next_at(locale, index), Kind::StackNext)
     }
 
     /// Compares and exchanges the header of an object of the hand, from free with the count that was read, to owned. It
@@ -66,7 +66,7 @@ impl<C: Client> Words<C> {
         ensures seat { IsSeatOf self.now.table seat.new }
         ensures makes { Makes C.terms C.Object.opens C.Object.step (plan_of self.now.table) (Kind.TakeTry locale index) (me_of seat.old) result (me_of seat.new) }
     {
-        let at = header_at(&self.shape, locale, index);
+        let at = self.shape.header_at(locale, index);
         let free = header(count, State::Free);
         let own = header(count, State::Own);
         self.exchange::<Brand>(seat, at, free, own, Kind::TakeTry { locale, index })
@@ -81,7 +81,7 @@ impl<C: Client> Words<C> {
         ensures seat { IsSeatOf self.now.table seat.new }
         ensures makes { Makes C.terms C.Object.opens C.Object.step (plan_of self.now.table) (Kind.Show ptr) (me_of seat.old) (header_word ptr.count State.Shown) (me_of seat.new) }
     {
-        let at = header_at(&self.shape, ptr.locale(), ptr.index());
+        let at = self.shape.header_at(ptr.locale(), ptr.index());
         let shown = header(ptr.count(), State::Shown);
         self.store::<Brand>(seat, at, shown, Kind::Show { ptr });
     }
@@ -95,7 +95,7 @@ impl<C: Client> Words<C> {
         ensures seat { IsSeatOf self.now.table seat.new }
         ensures makes { Makes C.terms C.Object.opens C.Object.step (plan_of self.now.table) (Kind.Return ptr) (me_of seat.old) (header_word ptr.count State.Free) (me_of seat.new) }
     {
-        let at = header_at(&self.shape, ptr.locale(), ptr.index());
+        let at = self.shape.header_at(ptr.locale(), ptr.index());
         let free = header(ptr.count(), State::Free);
         self.store::<Brand>(seat, at, free, Kind::Return { ptr });
     }

@@ -6,7 +6,7 @@ ghost use Rattle.pass_table.specs.Passes.{IsSeatOf, plan_of, view_of, me_of};
 ghost use Rattle.epoch_table.specs.Kinds.{MayMake, Makes};
 
 use crate::clients::Client;
-use crate::layout::{epoch_at, token_at};
+use crate::layout::epoch_at;
 use crate::words::{TableSeat, Words};
 use epoch_laws::{Kind, Token};
 use std::marker::Brand;
@@ -21,13 +21,10 @@ impl<C: Client> Words<C> {
         ensures seat { IsSeatOf self.now.table seat.new }
         ensures makes { Makes C.terms C.Object.opens C.Object.step (plan_of self.now.table) (Kind.Register locale token) (me_of seat.old) result (me_of seat.new) }
     {
-        let at = token_at(
-            &self.shape,
-            Token {
-                locale,
-                number: token,
-            },
-        );
+        let at = self.shape.token_at(Token {
+            locale,
+            number: token,
+        });
         self.exchange::<Brand>(seat, at, 0, 1, Kind::Register { locale, token })
     }
 
@@ -40,7 +37,7 @@ impl<C: Client> Words<C> {
         ensures seat { IsSeatOf self.now.table seat.new }
         ensures makes { Makes C.terms C.Object.opens C.Object.step (plan_of self.now.table) Kind.Unregister (me_of seat.old) 0 (me_of seat.new) }
     {
-        self.store::<Brand>(seat, token_at(&self.shape, token), 0, Kind::Unregister);
+        self.store::<Brand>(seat, self.shape.token_at(token), 0, Kind::Unregister);
     }
 
     /// Loads the epoch of the seat's locale.
@@ -65,7 +62,7 @@ impl<C: Client> Words<C> {
         ensures seat { IsSeatOf self.now.table seat.new }
         ensures makes { Makes C.terms C.Object.opens C.Object.step (plan_of self.now.table) Kind.PinSet (me_of seat.old) (epoch + 2) (me_of seat.new) }
     {
-        self.store::<Brand>(seat, token_at(&self.shape, token), epoch + 2, Kind::PinSet);
+        self.store::<Brand>(seat, self.shape.token_at(token), epoch + 2, Kind::PinSet);
     }
 
     /// Stores 1 in the seat's token. All holds end.
@@ -77,6 +74,6 @@ impl<C: Client> Words<C> {
         ensures seat { IsSeatOf self.now.table seat.new }
         ensures makes { Makes C.terms C.Object.opens C.Object.step (plan_of self.now.table) Kind.Unpin (me_of seat.old) 1 (me_of seat.new) }
     {
-        self.store::<Brand>(seat, token_at(&self.shape, token), 1, Kind::Unpin);
+        self.store::<Brand>(seat, self.shape.token_at(token), 1, Kind::Unpin);
     }
 }

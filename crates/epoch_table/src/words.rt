@@ -6,11 +6,11 @@ ghost use Rattle.epoch_table.specs.Layout.{table_words};
 
 use crate::clients::Client;
 use crate::events::Happens;
+use crate::layout::Layout;
 use crate::parts::{Name, Part, Plan};
 use crate::tables::Manages;
 use pass_book::Object;
 use pass_table::{CallerSeat, Note, Pass, PassTable};
-use pgas_base::Shape;
 
 /// A call of the client's object.
 pub type CallOf<C> = <<C as Client>::Object as Object>::Call;
@@ -52,7 +52,7 @@ pub type TableNote<C> = Note<
 #[derive(Drop)]
 pub struct Words<C: Client> {
     pub(crate) table: PassTable<Manages<C>>,
-    pub(crate) shape: Shape,
+    pub(crate) shape: Layout,
     pub(crate) client: C,
     ghost planned: { (plan_of table).shape ≡ shape },
     ghost of_client: { (plan_of table).client ≡ client },

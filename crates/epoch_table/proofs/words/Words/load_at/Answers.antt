@@ -9,8 +9,8 @@ use Rattle.epoch_table.specs.Spots.{TellsAt, PermittedAt}
 use Rattle.epoch_table.proofs.SpotSteps.{site_so, spot_place, spot_within, permitted_at, steps_at}
 use Rattle.epoch_table.proofs.words.Words.load_at.Goals as goal
 
-pub spot_at-at-requires-clause-site : goal.spot_at-at-requires-clause-site
-spot_at-at-requires-clause-site g c =
+pub spot_at-at-requires : goal.spot_at-at-requires
+spot_at-at-requires g c =
     let self = c.args.self.now in
     subst (λ shape. IsSite shape (site_of c.args.spot)) self.planned (site_so g.C.Client.terms self.table.table.shared.key _ c.args.spot _ c.requires.may.reaches)
 
