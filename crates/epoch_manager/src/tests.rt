@@ -70,7 +70,10 @@ fn the_first_limit_that_is_broken_is_told(rt: HostRuntime) {
 }
 
 // The last of the passes.
-pub(crate) fn take_pass(manager: &Manager<Cells>, passes: &mut Vec<Pass<Cells>>) -> Option<Pass<Cells>>
+pub(crate) fn take_pass(
+    manager: &Manager<Cells>,
+    passes: &mut Vec<Pass<Cells>>,
+) -> Option<Pass<Cells>>
     requires opening { AreOfOpening cells_terms manager.now passes.old.items }
     requires idle { All IsIdlePass passes.old.items }
     ensures opening { AreOfOpening cells_terms manager.now passes.new.items }

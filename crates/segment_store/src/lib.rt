@@ -8,4 +8,5 @@
 
 mod blocks;
 mod segments;
+
 pub use segments::Segment;
