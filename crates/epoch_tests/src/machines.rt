@@ -130,6 +130,32 @@ fn a_token_is_registered_once(rt: HostRuntime) -> Result<(), Fail> {
     Ok(())
 }
 
+// A reclaiming seat sends the one object that it freed home, and leaves both elections.
+fn send_home(rt: &impl Abort, machine: &mut Machine, seat: u32, now: Ptr) {
+    make(
+        rt,
+        machine,
+        seat,
+        &[Kind::HandLink {
+            ptr: now,
+            next: PENDING,
+        }],
+    );
+    make(
+        rt,
+        machine,
+        seat,
+        &[
+            Kind::HomeSwap {
+                top: now,
+                tail: now,
+            },
+            Kind::HomeLink,
+        ],
+    );
+    make(rt, machine, seat, &[Kind::Leave, Kind::Leave]);
+}
+
 #[test]
 fn a_deferral_that_waits_holds_back_the_second_advance(rt: HostRuntime) -> Result<(), Fail> {
     let shape = Shape {
@@ -182,29 +208,7 @@ fn a_deferral_that_waits_holds_back_the_second_advance(rt: HostRuntime) -> Resul
     assert_eq!(rt; machine.epoch(), 4);
     assert_eq!(rt; machine.header_of(0, 1), 8);
     refuse(&rt, &mut machine, 1, Kind::Leave, 2, 1);
-    let now = Ptr::new(0, 1, 1);
-    make(
-        &rt,
-        &mut machine,
-        1,
-        &[Kind::HandLink {
-            ptr: now,
-            next: PENDING,
-        }],
-    );
-    make(
-        &rt,
-        &mut machine,
-        1,
-        &[
-            Kind::HomeSwap {
-                top: now,
-                tail: now,
-            },
-            Kind::HomeLink,
-        ],
-    );
-    make(&rt, &mut machine, 1, &[Kind::Leave, Kind::Leave]);
+    send_home(&rt, &mut machine, 1, Ptr::new(0, 1, 1));
     Ok(())
 }
 

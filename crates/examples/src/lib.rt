@@ -1,4 +1,4 @@
-//! Uses of the library by example, each proved and tested. README shows them.
+//! Uses of the library by example, each proved. README shows them.
 #![tactic(auto)]
 
 mod bags;
@@ -30,6 +30,3 @@ pub use relays::relay;
 pub use runs::check_text;
 pub use scripts::replies_to;
 pub use threads::hand_over;
-
-#[cfg(test)]
-mod tests;

@@ -6,8 +6,6 @@ mod counted;
 mod graph;
 mod pairs;
 mod rows;
-#[cfg(test)]
-mod tests;
 mod vertices;
 
 pub use counted::counted_rows;

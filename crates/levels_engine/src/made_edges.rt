@@ -89,30 +89,3 @@ pub fn make_edges(
         both: false,
     })
 }
-
-#[cfg(test)]
-mod tests {
-    use super::*;
-    use std::test::Fail;
-
-    #[test]
-    fn draws_of_seed_0(rt: HostRuntime) -> Result<(), Fail> {
-        let mut draws = EdgeDraws::new(0, 1);
-        let wanted = [
-            48271, 182605794, 1291394886, 1914720637, 2078669041, 407355683,
-        ];
-        for number in wanted {
-            assert_eq!(rt; draws.draw(), number);
-        }
-        let list = make_edges(rt.alloc(), 0, 10, 3)?;
-        let wanted = [(1, 4), (6, 7), (1, 3)];
-        assert!(rt;
-            list.edges
-                .iter()
-                .map(|edge| (edge.from, edge.to))
-                .eq(wanted)
-        );
-        assert!(rt; !list.both);
-        Ok(())
-    }
-}

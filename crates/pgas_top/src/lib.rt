@@ -14,8 +14,6 @@ mod made_texts;
 mod options;
 mod program;
 mod statuses;
-#[cfg(test)]
-mod tests;
 
 pub use laws::made_lists_read_back;
 pub use program::{run, run_plain};

@@ -16,8 +16,6 @@ mod objects;
 mod rounds;
 mod scripts;
 mod shared;
-#[cfg(test)]
-mod tests;
 
 pub use alone::run_alone;
 pub use bag_calls::call_bag;

@@ -13,87 +13,89 @@ fn read_by_bytes(alloc: Global, text: &[u8]) -> Result<Result<EdgeList, EdgeFaul
     Ok(read_edges(alloc, &mut source))
 }
 
-#[test]
-fn accepted_texts_give_their_edges_and_their_direction(rt: HostRuntime) -> Result<(), Fail> {
-    let rows: [(&'static [u8], bool, &'static [Edge]); 9] = [
-        (b"", false, &[]),
-        (b"\n \t\r\n# c 1 x\n  #\n", false, &[]),
-        (
-            b"# c\r\n0\t3\r\n 3  0 \n\n0 0",
-            false,
-            &[
-                Edge {
-                    from: 0,
-                    to: 3,
-                    weight: 1,
-                },
-                Edge {
-                    from: 3,
-                    to: 0,
-                    weight: 1,
-                },
-                Edge {
-                    from: 0,
-                    to: 0,
-                    weight: 1,
-                },
-            ],
-        ),
-        (
-            b"0016777215 00000000000000000000000000007\n",
-            false,
-            &[Edge {
-                from: 16777215,
-                to: 7,
+// Texts, whether their edges lead both ways, and their edges.
+const ACCEPTED: [(&[u8], bool, &[Edge]); 9] = [
+    (b"", false, &[]),
+    (b"\n \t\r\n# c 1 x\n  #\n", false, &[]),
+    (
+        b"# c\r\n0\t3\r\n 3  0 \n\n0 0",
+        false,
+        &[
+            Edge {
+                from: 0,
+                to: 3,
                 weight: 1,
-            }],
-        ),
-        (
-            b"%pgas 2 both\n1 0 7\n",
-            true,
-            &[Edge {
+            },
+            Edge {
+                from: 3,
+                to: 0,
+                weight: 1,
+            },
+            Edge {
+                from: 0,
+                to: 0,
+                weight: 1,
+            },
+        ],
+    ),
+    (
+        b"0016777215 00000000000000000000000000007\n",
+        false,
+        &[Edge {
+            from: 16777215,
+            to: 7,
+            weight: 1,
+        }],
+    ),
+    (
+        b"%pgas 2 both\n1 0 7\n",
+        true,
+        &[Edge {
+            from: 1,
+            to: 0,
+            weight: 7,
+        }],
+    ),
+    (
+        b"%pgas \t 2  directed \r\n\n1 0 4294967295\n2 2\n",
+        false,
+        &[
+            Edge {
                 from: 1,
                 to: 0,
-                weight: 7,
-            }],
-        ),
-        (
-            b"%pgas \t 2  directed \r\n\n1 0 4294967295\n2 2\n",
-            false,
-            &[
-                Edge {
-                    from: 1,
-                    to: 0,
-                    weight: 4294967295,
-                },
-                Edge {
-                    from: 2,
-                    to: 2,
-                    weight: 1,
-                },
-            ],
-        ),
-        (b"%pgas 2 both", true, &[]),
-        (
-            b"1 2\n",
-            false,
-            &[Edge {
-                from: 1,
+                weight: 4294967295,
+            },
+            Edge {
+                from: 2,
                 to: 2,
                 weight: 1,
-            }],
-        ),
-        (
-            b"1 2 ",
-            false,
-            &[Edge {
-                from: 1,
-                to: 2,
-                weight: 1,
-            }],
-        ),
-    ];
-    for (text, both, want) in rows {
+            },
+        ],
+    ),
+    (b"%pgas 2 both", true, &[]),
+    (
+        b"1 2\n",
+        false,
+        &[Edge {
+            from: 1,
+            to: 2,
+            weight: 1,
+        }],
+    ),
+    (
+        b"1 2 ",
+        false,
+        &[Edge {
+            from: 1,
+            to: 2,
+            weight: 1,
+        }],
+    ),
+];
+
+#[test]
+fn accepted_texts_give_their_edges_and_their_direction(rt: HostRuntime) -> Result<(), Fail> {
+    for (text, both, want) in ACCEPTED {
         let whole = read_whole(rt.alloc(), text)??;
         assert_eq!(rt; whole.edges.as_slice(), want, "for {text:?}");
         assert_eq!(rt; whole.both, both, "for {text:?}");

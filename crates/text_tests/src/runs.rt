@@ -87,7 +87,7 @@ fn numbers_and_blanks_are_read_in_every_form(rt: HostRuntime) -> Result<(), Fail
 }
 
 #[test]
-fn other_texts_are_refused_at_their_first_bad_line(rt: HostRuntime) -> Result<(), Fail> {
+fn other_heads_are_refused_at_their_first_bad_line(rt: HostRuntime) -> Result<(), Fail> {
     let heads = [
         ("", 1),
         ("pgas-run 01\n", 1),
@@ -111,6 +111,11 @@ fn other_texts_are_refused_at_their_first_bad_line(rt: HostRuntime) -> Result<()
             "{text}"
         );
     }
+    Ok(())
+}
+
+#[test]
+fn other_steps_are_refused(rt: HostRuntime) -> Result<(), Fail> {
     let steps = [
         "",
         "end 1\n",
@@ -156,11 +161,11 @@ const SCAN: [Kind; 5] = [
     Kind::ScanToken,
 ];
 
-#[test]
-fn a_run_made_in_code_is_written_and_checked(rt: HostRuntime) -> Result<(), Fail> {
+// An object is taken, shown and deferred while its taker stays pinned, so that the second advance is refused.
+fn steps_to_an_advance_too_many(alloc: Global) -> Result<Vec<StepLine>, AllocError> {
     let ptr = Ptr::new(0, 1, 0);
     let (locale, index) = (0, 1);
-    let mut steps = Vec::new(rt.alloc());
+    let mut steps = Vec::new(alloc);
     add(
         &mut steps,
         0,
@@ -203,6 +208,12 @@ fn a_run_made_in_code_is_written_and_checked(rt: HostRuntime) -> Result<(), Fail
     )?;
     add(&mut steps, 1, &SCAN[..4])?;
     add(&mut steps, 1, &[Kind::Advance])?;
+    Ok(steps)
+}
+
+#[test]
+fn a_run_made_in_code_is_written_and_checked(rt: HostRuntime) -> Result<(), Fail> {
+    let steps = steps_to_an_advance_too_many(rt.alloc())?;
     let shape = Shape {
         locales: 1,
         tokens: 2,

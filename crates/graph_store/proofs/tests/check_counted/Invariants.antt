@@ -1,5 +1,0 @@
-use Rattle.edge_text.specs.Edges.{HaveIds}
-use Rattle.graph_store.proofs.tests.check_counted.Given as goal
-
-abbrev pub invariant-loop-from : goal.invariant-loop-from
-invariant-loop-from g l = HaveIds l.list.edges.items
