@@ -22,4 +22,3 @@ pub mod Gathering
 pub mod TakeCalls
 pub mod Releasing
 pub mod ReclaimCalls
-pub mod Carrying

@@ -26,6 +26,7 @@ mod reads;
 mod reclaims;
 mod releases;
 mod returns;
+mod sizes;
 mod spots;
 mod taking;
 mod tokens;
@@ -37,6 +38,3 @@ pub use managers::{ClientPass, MOST_HELD, Manager, Note, Pass};
 pub use phases::Phase;
 pub use plain_cells::{CellCall, PlainCells};
 pub use reclaims::Advanced;
-
-#[cfg(test)]
-mod tests;

@@ -1,5 +1,0 @@
-use Rattle.epoch_manager.specs.Carrying.{Carries}
-use Rattle.epoch_manager.proofs.tests.crowds.make_all.Given as goal
-
-abbrev pub invariant-loop-call : goal.invariant-loop-call
-invariant-loop-call g l = Carries l.manager l.caller.pass l.caller.hand l.caller.cut l.caller.held

@@ -1,5 +1,0 @@
-use Rattle.epoch_manager.specs.Carrying.{Carries}
-use Rattle.epoch_manager.proofs.tests.crowds.take_turns.Given as goal
-
-abbrev pub invariant-loop-round : goal.invariant-loop-round
-invariant-loop-round g l = Carries l.manager l.caller.pass l.caller.hand l.caller.cut l.caller.held

@@ -1,6 +1,0 @@
-use Rattle.std.specs.List.{All}
-use Rattle.epoch_manager.specs.Carrying.{Carries}
-use Rattle.epoch_manager.proofs.tests.scripts.first_other.Given as goal
-
-abbrev pub invariant-loop-place : goal.invariant-loop-place
-invariant-loop-place g l = All (λ c. Carries l.manager c.pass c.hand c.cut c.held) l.callers
