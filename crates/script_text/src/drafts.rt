@@ -53,15 +53,11 @@ impl ScriptDraft {
         requires { IsInRound self.stage }
         ensures { IfOk result (λ script. IsMade self (plain_script script)) }
     {
-        let ScriptDraft {
-            stage,
-            before: mut rounds,
-            calls,
-        } = self;
-        let Stage::InRound(object, callers, _) = stage else {
+        let Stage::InRound(object, callers, _) = self.stage else {
             unreachable!()
         };
-        rounds.push(Round { calls })?;
+        let mut rounds = self.before;
+        rounds.push(Round { calls: self.calls })?;
         Ok(Script {
             object,
             callers,
@@ -161,19 +157,11 @@ fn end_round(before: &mut Vec<Round>, calls: &mut Vec<Vec<Call>>) -> Result<(), 
 fn push_call(calls: &mut Vec<Vec<Call>>, caller: usize, call: Call) -> Result<(), AllocError>
     ensures { OnOk result (map (λ calls. calls.items) calls.new.items ≡ with_call caller call (map (λ calls. calls.items) calls.old.items)) }
 {
-    if caller < calls.len() {
-        add_call(&mut calls[caller], call)?;
+    if let Some(list) = calls.get_mut(caller) {
+        if list.is_empty() {
+            list.reserve_exact(1)?;
+        }
+        list.push(call)?;
     }
-    Ok(())
-}
-
-#[inline(always)]
-fn add_call(list: &mut Vec<Call>, call: Call) -> Result<(), AllocError>
-    ensures { OnOk result (list.new.items ≡ list.old.items ++ call ∷ []) }
-{
-    if list.is_empty() {
-        list.reserve_exact(1)?;
-    }
-    list.push(call)?;
     Ok(())
 }

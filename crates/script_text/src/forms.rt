@@ -1,8 +1,6 @@
 ghost use Rattle.std.specs.Prelude.{◌≡◌, ◌<◌, [], length, slice_index_or};
 ghost use Rattle.script_text.specs.Forms.{IsSpot, IsFront, script_grammar, kind_at, calls_at, round_start, round_leads, row_spot, between, object_bounds, bounds_of};
 ghost use Rattle.script_text.specs.Rows.{IsMakeable, row_word};
-ghost use Rattle.script_text.specs.declared.rows.Numbers.TheVariants.{Zero};
-ghost use Rattle.script_text.specs.declared.rows.Row.TheVariants.{Object as ObjectRow};
 ghost use Rattle.script_text.specs.Sound.{script_grammar_sound};
 
 use crate::lines::{Kind, Line, Stage};
@@ -91,7 +89,7 @@ fn round_leads(kind: Kind, callers: u32, spoken: bool, index: usize) -> Spot
 /// The last word of a row.
 #[inline(always)]
 fn row_word(row: Row) -> &'static str
-    requires { IsMakeable row Zero }
+    requires { IsMakeable row Numbers.Zero }
     ensures { result.now ≡ row_word row }
 {
     line_parts(made(row, Numbers::Zero)).0
@@ -128,7 +126,7 @@ fn between(least: u64, most: u64) -> Bounds
 /// beside its row.
 #[inline(always)]
 fn object_bounds(kind: Kind, numbers: Numbers) -> Bounds
-    requires { IsFront (ObjectRow kind) numbers }
+    requires { IsFront (Row.Object kind) numbers }
     ensures { result ≡ object_bounds numbers kind }
 {
     let least = u64::from(LEAST_WIDTH);

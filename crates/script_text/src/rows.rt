@@ -4,8 +4,6 @@
 //! kind: so another call is a line of its kind's two functions here.
 ghost use Rattle.std.specs.Prelude.{◌≡◌};
 ghost use Rattle.script_text.specs.Rows.{count, nth, with_number, call_of, list_parts, bag_parts, deque_parts, call_parts, call_numbers, object_of, object_parts, line_parts, numbers_of, made, IsMakeable, IsMakeableObject};
-ghost use Rattle.script_text.specs.declared.scripts.Call.TheVariants.{List as OfList, Bag as OfBag, Deque as OfDeque};
-ghost use Rattle.script_text.specs.declared.rows.Numbers.TheVariants.{Three};
 
 use crate::lines::{Kind, Line};
 use crate::scripts::{Call, ObjectLine};
@@ -78,19 +76,19 @@ pub enum Row {
 // ---- calls, by the numbers of their words: those come first that come often
 
 fn list(call: ListCall) -> Call
-    ensures { result ≡ OfList call }
+    ensures { result ≡ Call.List call }
 {
     Call::List { call }
 }
 
 fn bag(call: BagCall, once: bool) -> Call
-    ensures { result ≡ OfBag call once }
+    ensures { result ≡ Call.Bag call once }
 {
     Call::Bag { call, once }
 }
 
 fn deque(call: DequeCall, once: bool) -> Call
-    ensures { result ≡ OfDeque call once }
+    ensures { result ≡ Call.Deque call once }
 {
     Call::Deque { call, once }
 }
@@ -121,8 +119,7 @@ fn call_of(kind: Kind, word: usize, once: bool, numbers: Numbers) -> Call
 
 #[inline(always)]
 fn list_parts(call: ListCall) -> (&'static str, Numbers)
-    ensures word { result.0.now ≡ (list_parts call).0 }
-    ensures numbers { result.1 ≡ (list_parts call).1 }
+    ensures { (result.0.now, result.1) ≡ list_parts call }
 {
     match call {
         ListCall::Read { at } => ("read", Numbers::One(at)),
@@ -136,8 +133,7 @@ fn list_parts(call: ListCall) -> (&'static str, Numbers)
 
 #[inline(always)]
 fn bag_parts(call: BagCall) -> (&'static str, Numbers)
-    ensures word { result.0.now ≡ (bag_parts call).0 }
-    ensures numbers { result.1 ≡ (bag_parts call).1 }
+    ensures { (result.0.now, result.1) ≡ bag_parts call }
 {
     match call {
         BagCall::Add { item } => ("add", Numbers::One(item)),
@@ -147,8 +143,7 @@ fn bag_parts(call: BagCall) -> (&'static str, Numbers)
 
 #[inline(always)]
 fn deque_parts(call: DequeCall) -> (&'static str, Numbers)
-    ensures word { result.0.now ≡ (deque_parts call).0 }
-    ensures numbers { result.1 ≡ (deque_parts call).1 }
+    ensures { (result.0.now, result.1) ≡ deque_parts call }
 {
     match call {
         DequeCall::PushBack { item } => ("push_back", Numbers::One(item)),
@@ -160,8 +155,7 @@ fn deque_parts(call: DequeCall) -> (&'static str, Numbers)
 
 #[inline(always)]
 fn call_parts(call: Call) -> (&'static str, Numbers)
-    ensures word { result.0.now ≡ (call_parts call).0 }
-    ensures numbers { result.1 ≡ call_numbers call }
+    ensures { (result.0.now, result.1) ≡ call_parts call }
 {
     match call {
         Call::List { call } => list_parts(call),
@@ -173,8 +167,7 @@ fn call_parts(call: Call) -> (&'static str, Numbers)
 // ---- lines
 
 fn object_parts(object: ObjectLine) -> (&'static str, Numbers)
-    ensures word { result.0.now ≡ (object_parts object).0 }
-    ensures numbers { result.1 ≡ (object_parts object).1 }
+    ensures { (result.0.now, result.1) ≡ object_parts object }
 {
     match object {
         ObjectLine::List {
@@ -197,7 +190,7 @@ fn object_parts(object: ObjectLine) -> (&'static str, Numbers)
 }
 
 fn three(first: u8, second: u32, third: u32) -> Numbers
-    ensures { result ≡ Three first second third }
+    ensures { result ≡ Numbers.Three first second third }
 {
     Numbers::Three(u64::from(first), u64::from(second), u64::from(third))
 }
@@ -205,8 +198,7 @@ fn three(first: u8, second: u32, third: u32) -> Numbers
 /// The last word of a line, and its numbers.
 #[inline(always)]
 pub fn line_parts(line: Line) -> (&'static str, Numbers)
-    ensures word { result.0.now ≡ (line_parts line).0 }
-    ensures numbers { result.1 ≡ numbers_of line }
+    ensures { (result.0.now, result.1) ≡ line_parts line }
 {
     match line {
         Line::Pgas => ("1", Numbers::Zero),

@@ -162,15 +162,6 @@ fn push_rounds(text: &mut String, rounds: &[Round]) -> Result<(), AllocError>
     Ok(())
 }
 
-/// Adds the lines before the rounds.
-fn push_head(text: &mut String, object: ObjectLine, callers: u32) -> Result<(), AllocError>
-    ensures { OnOk result (string_bytes text.new ≡ string_bytes text.old ++ written_head object callers) }
-{
-    push_whole(text, Line::Pgas)?;
-    push_whole(text, Line::Object(object))?;
-    push_whole(text, Line::Callers(callers))
-}
-
 /// The text of the script: its lines in order, with single spaces and no leading zeros, in each round a
 /// `caller` line for each caller that has calls, and a `round` line between two rounds. Each line ends
 /// with LF. `read_script` reads it as the same script.
@@ -180,7 +171,9 @@ pub fn write_script(alloc: Global, script: &Script) -> Result<String, AllocError
     ensures reads { IfOk result (λ text. HasScript (string_bytes text) (Unit {0}) (plain_script script.now)) }
 {
     let mut text = String::new(alloc);
-    push_head(&mut text, script.object, script.callers)?;
+    push_whole(&mut text, Line::Pgas)?;
+    push_whole(&mut text, Line::Object(script.object))?;
+    push_whole(&mut text, Line::Callers(script.callers))?;
     push_rounds(&mut text, &script.rounds)?;
     push_whole(&mut text, Line::End)?;
     Ok(text)
