@@ -73,13 +73,10 @@ impl Draft<Line, Spot> for ScriptDraft {
 
     ghost progress = { λ d. d };
 
-    // What is asked and taken for each line is inlined into the reader's loop, so that no line is copied from call to call.
-    #[inline(always)]
     fn start(&self) -> Spot {
         Spot::Start(self.stage)
     }
 
-    #[inline(always)]
     fn counts(&self, said: Option<Line>) -> bool
         ensures { result ≡ is_counted said }
     {
@@ -94,7 +91,6 @@ impl Draft<Line, Spot> for ScriptDraft {
         TooKind::Calls
     }
 
-    #[inline(always)]
     fn ends(&self, said: Option<Line>) -> bool
         ensures { result ≡ is_end said }
     {
@@ -107,6 +103,7 @@ impl Draft<Line, Spot> for ScriptDraft {
         self.ends(said)
     }
 
+    // This is inlined into the reader's loop, so that no line is copied from call to call.
     #[inline(always)]
     fn take(&mut self, said: Option<Line>) -> Result<(), AllocError>
         requires { IsSaid script_grammar IsSpot said }

@@ -39,7 +39,6 @@ fn kind_at(index: usize) -> Kind
 }
 
 /// How many calls a line may begin with, if a `caller` line stands before it.
-#[inline(always)]
 fn calls_at(kind: Kind, spoken: bool) -> usize
     ensures { result ≡ calls_at spoken kind }
 {
@@ -146,19 +145,6 @@ fn object_bounds(kind: Kind, numbers: Numbers) -> Bounds
     }
 }
 
-#[inline(always)]
-fn bounds_of(row: Row, numbers: Numbers) -> Bounds
-    requires { IsFront row numbers }
-    ensures { result ≡ bounds_of row numbers }
-{
-    match row {
-        Row::Object(kind) => object_bounds(kind, numbers),
-        Row::Callers(object) => between(1, u64::from(object.most_callers())),
-        Row::Caller(callers) => between(0, u64::from(callers.saturating_sub(1))),
-        Row::Call(..) => between(0, u64::MAX),
-    }
-}
-
 impl Form<Line> for Spot {
     ghost grammar = { script_grammar };
 
@@ -218,10 +204,15 @@ impl Form<Line> for Spot {
 
     #[inline(always)]
     fn bounds(self) -> Option<Bounds> {
-        match self {
-            Spot::Row { row, numbers } => Some(bounds_of(row, numbers)),
-            _ => None,
-        }
+        let Spot::Row { row, numbers } = self else {
+            return None;
+        };
+        Some(match row {
+            Row::Object(kind) => object_bounds(kind, numbers),
+            Row::Callers(object) => between(1, u64::from(object.most_callers())),
+            Row::Caller(callers) => between(0, u64::from(callers.saturating_sub(1))),
+            Row::Call(..) => between(0, u64::MAX),
+        })
     }
 
     #[inline(always)]
@@ -232,7 +223,6 @@ impl Form<Line> for Spot {
         }
     }
 
-    #[inline(always)]
     fn says(self) -> Option<Line> {
         match self {
             Spot::Whole(line) => Some(line),

@@ -46,7 +46,6 @@ impl Numbers {
     }
 
     /// Three of them. Those that are not there are 0.
-    #[inline(always)]
     fn three(self) -> (u64, u64, u64)
         ensures first { result.0 ≡ nth self 0 }
         ensures second { result.1 ≡ nth self 1 }
@@ -75,92 +74,66 @@ pub enum Row {
 
 // ---- calls, by the numbers of their words: those come first that come often
 
-fn list(call: ListCall) -> Call
-    ensures { result ≡ Call.List call }
-{
-    Call::List { call }
-}
-
-fn bag(call: BagCall, once: bool) -> Call
-    ensures { result ≡ Call.Bag call once }
-{
-    Call::Bag { call, once }
-}
-
-fn deque(call: DequeCall, once: bool) -> Call
-    ensures { result ≡ Call.Deque call once }
-{
-    Call::Deque { call, once }
-}
-
 #[inline(always)]
 fn call_of(kind: Kind, word: usize, once: bool, numbers: Numbers) -> Call
     ensures { result ≡ call_of kind word once numbers }
 {
     let (at, old, new) = numbers.three();
-    let item = at;
-    match (kind, word) {
-        (Kind::List, 0) => list(ListCall::Read { at }),
-        (Kind::List, 1) => list(ListCall::Write { at, value: old }),
-        (Kind::List, 2) => list(ListCall::Swap { at, old, new }),
-        (Kind::List, 3) => list(ListCall::Add { at, value: old }),
-        (Kind::List, 4) => list(ListCall::Grow { to: at }),
-        (Kind::List, _) => list(ListCall::Len),
-        (Kind::Bag, 0) => bag(BagCall::Add { item }, once),
-        (Kind::Bag, _) => bag(BagCall::Remove, once),
-        (Kind::Deque, 0) => deque(DequeCall::PushBack { item }, once),
-        (Kind::Deque, 1) => deque(DequeCall::PushFront { item }, once),
-        (Kind::Deque, 2) => deque(DequeCall::PopBack, once),
-        (Kind::Deque, _) => deque(DequeCall::PopFront, once),
+    match kind {
+        Kind::List => {
+            let call = match word {
+                0 => ListCall::Read { at },
+                1 => ListCall::Write { at, value: old },
+                2 => ListCall::Swap { at, old, new },
+                3 => ListCall::Add { at, value: old },
+                4 => ListCall::Grow { to: at },
+                _ => ListCall::Len,
+            };
+            Call::List { call }
+        }
+        Kind::Bag => {
+            let call = match word {
+                0 => BagCall::Add { item: at },
+                _ => BagCall::Remove,
+            };
+            Call::Bag { call, once }
+        }
+        Kind::Deque => {
+            let call = match word {
+                0 => DequeCall::PushBack { item: at },
+                1 => DequeCall::PushFront { item: at },
+                2 => DequeCall::PopBack,
+                _ => DequeCall::PopFront,
+            };
+            Call::Deque { call, once }
+        }
     }
 }
 
-// ---- the words of calls, which `try` may stand before, and their numbers
-
-#[inline(always)]
-fn list_parts(call: ListCall) -> (&'static str, Numbers)
-    ensures { (result.0.now, result.1) ≡ list_parts call }
-{
-    match call {
-        ListCall::Read { at } => ("read", Numbers::One(at)),
-        ListCall::Write { at, value } => ("write", Numbers::Two(at, value)),
-        ListCall::Swap { at, old, new } => ("swap", Numbers::Three(at, old, new)),
-        ListCall::Add { at, value } => ("add", Numbers::Two(at, value)),
-        ListCall::Grow { to } => ("grow", Numbers::One(to)),
-        ListCall::Len => ("len", Numbers::Zero),
-    }
-}
-
-#[inline(always)]
-fn bag_parts(call: BagCall) -> (&'static str, Numbers)
-    ensures { (result.0.now, result.1) ≡ bag_parts call }
-{
-    match call {
-        BagCall::Add { item } => ("add", Numbers::One(item)),
-        BagCall::Remove => ("remove", Numbers::Zero),
-    }
-}
-
-#[inline(always)]
-fn deque_parts(call: DequeCall) -> (&'static str, Numbers)
-    ensures { (result.0.now, result.1) ≡ deque_parts call }
-{
-    match call {
-        DequeCall::PushBack { item } => ("push_back", Numbers::One(item)),
-        DequeCall::PushFront { item } => ("push_front", Numbers::One(item)),
-        DequeCall::PopBack => ("pop_back", Numbers::Zero),
-        DequeCall::PopFront => ("pop_front", Numbers::Zero),
-    }
-}
-
+/// The word of a call, which `try` may stand before, and its numbers.
 #[inline(always)]
 fn call_parts(call: Call) -> (&'static str, Numbers)
     ensures { (result.0.now, result.1) ≡ call_parts call }
 {
     match call {
-        Call::List { call } => list_parts(call),
-        Call::Bag { call, .. } => bag_parts(call),
-        Call::Deque { call, .. } => deque_parts(call),
+        Call::List { call } => match call {
+            ListCall::Read { at } => ("read", Numbers::One(at)),
+            ListCall::Write { at, value } => ("write", Numbers::Two(at, value)),
+            ListCall::Swap { at, old, new } => ("swap", Numbers::Three(at, old, new)),
+            ListCall::Add { at, value } => ("add", Numbers::Two(at, value)),
+            ListCall::Grow { to } => ("grow", Numbers::One(to)),
+            ListCall::Len => ("len", Numbers::Zero),
+        },
+        Call::Bag { call, .. } => match call {
+            BagCall::Add { item } => ("add", Numbers::One(item)),
+            BagCall::Remove => ("remove", Numbers::Zero),
+        },
+        Call::Deque { call, .. } => match call {
+            DequeCall::PushBack { item } => ("push_back", Numbers::One(item)),
+            DequeCall::PushFront { item } => ("push_front", Numbers::One(item)),
+            DequeCall::PopBack => ("pop_back", Numbers::Zero),
+            DequeCall::PopFront => ("pop_front", Numbers::Zero),
+        },
     }
 }
 
@@ -180,12 +153,10 @@ fn object_parts(object: ObjectLine) -> (&'static str, Numbers)
             segments,
             room,
         } => ("bag", three(locales, segments, room)),
-        ObjectLine::Deque { locales, capacity } => {
-            (
-                "deque",
-                Numbers::Two(u64::from(locales), u64::from(capacity)),
-            )
-        }
+        ObjectLine::Deque { locales, capacity } => (
+            "deque",
+            Numbers::Two(locales.into(), capacity.into()),
+        ),
     }
 }
 
