@@ -21,7 +21,7 @@ use Rattle.script_text.specs.declared.scripts.ObjectLine.{ObjectLine as AnObject
 use Rattle.script_text.specs.declared.scripts.ObjectLine.TheVariants.{List as AList, Bag as ABag, Deque as ADeque}
 use Rattle.script_text.specs.Forms.{between, bounds_of, count_of, row_spot, In, IsFront, RowAt, IsStage}
 use Rattle.script_text.specs.Lines.{IsOfObject, IsCallOf, MayCome, most_callers}
-use Rattle.script_text.specs.Rows.{count, listed, nth, with_number, kind_of, is_once, line_parts, fronts, words_of, call_of, numbers_of, made}
+use Rattle.script_text.specs.Rows.{count, listed, nth, with_number, kind_of, is_once, line_parts, fronts, words_of, call_made, numbers_of, made}
 
 -- ---- a row and its line
 
@@ -174,7 +174,7 @@ object_may KDeque n front whole =
     let second = fields.1 (omega (arith, whole)) in
     (first.0, first.1, second.0, second.1)
 
-of_kind : (object : AnObject) (word : ℕ) (once : Bool) (n : Numbers) → IsOfObject object (call_of (kind_of object) word once n) × (is_once (call_of (kind_of object) word once n) ≡ true → once ≡ true)
+of_kind : (object : AnObject) (word : ℕ) (once : Bool) (n : Numbers) → IsOfObject object (call_made (kind_of object) word once n) × (is_once (call_made (kind_of object) word once n) ≡ true → once ≡ true)
 of_kind (AList locales objects width) word once n = (tt, λ is. absurd (false≢true is))
 of_kind (ABag locales segments room) word once n = (tt, λ is. is)
 of_kind (ADeque locales capacity) word once n = (tt, λ is. is)
@@ -190,7 +190,7 @@ small_numbers kind word once (Three first second third) front =
     All-cons Small first (second ∷ third ∷ []) (omega (arith, front.0)) (All-cons Small second (third ∷ []) (omega (arith, front.1)) (All-cons Small third [] (omega (arith, front.2)) (All-nil Small)))
 
 call_may : (object : AnObject) (callers word : ℕ) (once : Bool) (n : Numbers) → (once ≡ true → callers ≡ 1) → IsFront (Call (kind_of object) word once) n → count n ≡ count_of (Call (kind_of object) word once)
-    → IsCallOf object callers (call_of (kind_of object) word once n)
+    → IsCallOf object callers (call_made (kind_of object) word once n)
 call_may object callers word once n one front whole = record {
   of_object = (of_kind object word once n).0;
   once = λ is. one ((of_kind object word once n).1 is);
@@ -204,5 +204,5 @@ line_may stage (Caller callers) n at front whole staged =
     let some : 1 ≤ callers = (subst IsStage at.2 staged).0 in
     subst (λ (s : Stage). MayCome s (CallerLine (nth n 0))) (sym at.2) (omega (arith, (front_fields (Caller callers) n front).0 (omega (arith, whole)), some))
 line_may stage (Call kind word once) n at front whole staged =
-    subst (λ (s : Stage). MayCome s (CallLine (call_of kind word once n))) (sym at.3)
-    (subst (λ (k : Kind). IsFront (Call k word once) n → count n ≡ count_of (Call k word once) → IsCallOf at.0 at.1 (call_of k word once n)) (sym at.4) (call_may at.0 at.1 word once n at.5) front whole)
+    subst (λ (s : Stage). MayCome s (CallLine (call_made kind word once n))) (sym at.3)
+    (subst (λ (k : Kind). IsFront (Call k word once) n → count n ≡ count_of (Call k word once) → IsCallOf at.0 at.1 (call_made k word once n)) (sym at.4) (call_may at.0 at.1 word once n at.5) front whole)

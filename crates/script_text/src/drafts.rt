@@ -142,9 +142,8 @@ fn end_round(before: &mut Vec<Round>, calls: &mut Vec<Vec<Call>>) -> Result<(), 
     ensures calls { OnOk result (map (λ calls. calls.items) calls.new.items ≡ replicate (length calls.old.items) []) }
 {
     let next = silence(*calls.allocator(), calls.len())?;
-    before.push(Round {
-        calls: mem::replace(calls, next),
-    })?;
+    let calls = mem::replace(calls, next);
+    before.push(Round { calls })?;
     Ok(())
 }
 

@@ -3,7 +3,7 @@
 //! A row is a line but for its numbers. That of a call is the number of the call's word among those of its
 //! kind: so another call is a line of its kind's two functions here.
 ghost use Rattle.std.specs.Prelude.{◌≡◌};
-ghost use Rattle.script_text.specs.Rows.{count, nth, with_number, call_of, list_parts, bag_parts, deque_parts, call_parts, call_numbers, object_of, object_parts, line_parts, numbers_of, made, IsMakeable, IsMakeableObject};
+ghost use Rattle.script_text.specs.Rows.{count, with_number, call_of, call_parts, object_of, object_parts, line_parts, made, IsMakeable};
 
 use crate::lines::{Kind, Line};
 use crate::scripts::{Call, ObjectLine};
@@ -44,20 +44,6 @@ impl Numbers {
             }
         }
     }
-
-    /// Three of them. Those that are not there are 0.
-    fn three(self) -> (u64, u64, u64)
-        ensures first { result.0 ≡ nth self 0 }
-        ensures second { result.1 ≡ nth self 1 }
-        ensures third { result.2 ≡ nth self 2 }
-    {
-        match self {
-            Numbers::Zero => (0, 0, 0),
-            Numbers::One(first) => (first, 0, 0),
-            Numbers::Two(first, second) => (first, second, 0),
-            Numbers::Three(first, second, third) => (first, second, third),
-        }
-    }
 }
 
 /// A line but for its numbers.
@@ -75,10 +61,9 @@ pub enum Row {
 // ---- calls, by the numbers of their words: those come first that come often
 
 #[inline(always)]
-fn call_of(kind: Kind, word: usize, once: bool, numbers: Numbers) -> Call
-    ensures { result ≡ call_of kind word once numbers }
+fn call_of(kind: Kind, word: usize, once: bool, at: u64, old: u64, new: u64) -> Call
+    ensures { result ≡ call_of kind word once at old new }
 {
-    let (at, old, new) = numbers.three();
     match kind {
         Kind::List => {
             let call = match word {
@@ -182,12 +167,9 @@ pub fn line_parts(line: Line) -> (&'static str, Numbers)
     }
 }
 
-fn object_of(kind: Kind, numbers: Numbers) -> ObjectLine
-    requires { IsMakeableObject numbers }
-    ensures { result ≡ object_of kind numbers }
+fn object_of(kind: Kind, locales: u8, second: u32, third: u32) -> ObjectLine
+    ensures { result ≡ object_of kind locales second third }
 {
-    let (first, second, third) = numbers.three();
-    let (locales, second, third) = (first as u8, second as u32, third as u32);
     match kind {
         Kind::List => ObjectLine::List {
             locales,
@@ -206,17 +188,27 @@ fn object_of(kind: Kind, numbers: Numbers) -> ObjectLine
     }
 }
 
-/// The line of a row with these numbers.
+/// The line of a row with these numbers. Those that are not there are 0.
 #[inline(always)]
 pub fn made(row: Row, numbers: Numbers) -> Line
     requires { IsMakeable row numbers }
     ensures { result ≡ made row numbers }
 {
-    let (first, _, _) = numbers.three();
+    let (first, second, third) = match numbers {
+        Numbers::Zero => (0, 0, 0),
+        Numbers::One(first) => (first, 0, 0),
+        Numbers::Two(first, second) => (first, second, 0),
+        Numbers::Three(first, second, third) => (first, second, third),
+    };
     match row {
-        Row::Object(kind) => Line::Object(object_of(kind, numbers)),
+        Row::Object(kind) => Line::Object(object_of(
+            kind,
+            first as u8,
+            second as u32,
+            third as u32,
+        )),
         Row::Callers(_) => Line::Callers(first as u32),
         Row::Caller(_) => Line::Caller(first as u32),
-        Row::Call(kind, word, once) => Line::Call(call_of(kind, word, once, numbers)),
+        Row::Call(kind, word, once) => Line::Call(call_of(kind, word, once, first, second, third)),
     }
 }

@@ -1,7 +1,7 @@
 ghost use Rattle.std.specs.Prelude.{◌≡◌, ◌<◌, ◌++◌, ◌∷◌, [], OnOk, IfOk, string_bytes, map, decimal};
-ghost use Rattle.line_text.specs.Words.{spaced, words_line};
+ghost use Rattle.line_text.specs.Words.{spaced};
 ghost use Rattle.script_text.specs.Replies.{reply_text, caller_text, left_text, replies_text};
-ghost use Rattle.script_text.specs.Rows.{listed, words_of, written_line};
+ghost use Rattle.script_text.specs.Rows.{listed, written_line};
 ghost use Rattle.script_text.specs.ScriptText.{HasScript};
 ghost use Rattle.script_text.specs.Scripts.{written, written_head, plain_script, IsValid, written_calls, plain_round, written_callers, written_rounds};
 
@@ -87,21 +87,6 @@ pub fn write_replies(alloc: Global, replies: &Replies) -> Result<String, AllocEr
     Ok(text)
 }
 
-/// Adds the words of a line that stand before its numbers.
-fn push_words(text: &mut String, line: Line) -> Result<(), AllocError>
-    ensures { OnOk result (string_bytes text.new ≡ string_bytes text.old ++ words_line (words_of line)) }
-{
-    let (word, _) = line_parts(line);
-    match line {
-        Line::Pgas => text.push_str("pgas 1"),
-        Line::Object(_) => write!(text, "object {word}"),
-        Line::Call(Call::Bag { once: true, .. } | Call::Deque { once: true, .. }) => {
-            write!(text, "try {word}")
-        }
-        _ => text.push_str(word),
-    }
-}
-
 /// Adds numbers, with a space before each.
 fn push_numbers(text: &mut String, numbers: Numbers) -> Result<(), AllocError>
     ensures { OnOk result (string_bytes text.new ≡ string_bytes text.old ++ spaced (map decimal (listed numbers))) }
@@ -118,8 +103,16 @@ fn push_numbers(text: &mut String, numbers: Numbers) -> Result<(), AllocError>
 fn push_whole(text: &mut String, line: Line) -> Result<(), AllocError>
     ensures { OnOk result (string_bytes text.new ≡ string_bytes text.old ++ written_line line) }
 {
-    push_words(text, line)?;
-    push_numbers(text, line_parts(line).1)?;
+    let (word, numbers) = line_parts(line);
+    match line {
+        Line::Pgas => text.push_str("pgas 1")?,
+        Line::Object(_) => write!(text, "object {word}")?,
+        Line::Call(Call::Bag { once: true, .. } | Call::Deque { once: true, .. }) => {
+            write!(text, "try {word}")?;
+        }
+        _ => text.push_str(word)?,
+    }
+    push_numbers(text, numbers)?;
     text.push_str("\n")
 }
 
