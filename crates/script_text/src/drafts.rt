@@ -1,4 +1,4 @@
-ghost use Rattle.std.specs.Prelude.{◌≡◌, ◌^◌, [], ◌∷◌, ◌++◌, OnOk, IfOk, MatchResult, length, map, replicate};
+ghost use Rattle.std.specs.Prelude.{◌≡◌, [], OnOk, IfOk, map, replicate};
 ghost use Rattle.line_text.specs.Lines.{IsSaid};
 ghost use Rattle.script_text.specs.Forms.{IsSpot, script_grammar};
 ghost use Rattle.script_text.specs.Lines.{IsInRound, caller_at};
@@ -116,7 +116,11 @@ impl Draft<Line, Spot> for ScriptDraft {
             Line::Callers(callers) => {
                 self.calls = silence(*self.calls.allocator(), callers as usize)?;
             }
-            Line::Round => end_round(&mut self.before, &mut self.calls)?,
+            Line::Round => {
+                let next = silence(*self.calls.allocator(), self.calls.len())?;
+                let calls = mem::replace(&mut self.calls, next);
+                self.before.push(Round { calls })?;
+            }
             Line::Call(call) => push_call(&mut self.calls, self.stage.caller(), call)?,
             _ => (),
         }
@@ -134,17 +138,6 @@ fn silence(alloc: Global, callers: usize) -> Result<Vec<Vec<Call>>, AllocError>
         lists.push(Vec::new(alloc))?;
     }
     Ok(lists)
-}
-
-/// Adds the present round to those before it, and begins another.
-fn end_round(before: &mut Vec<Round>, calls: &mut Vec<Vec<Call>>) -> Result<(), AllocError>
-    ensures before { OnOk result (map plain_round before.new.items ≡ map plain_round before.old.items ++ map (λ calls. calls.items) calls.old.items ∷ []) }
-    ensures calls { OnOk result (map (λ calls. calls.items) calls.new.items ≡ replicate (length calls.old.items) []) }
-{
-    let next = silence(*calls.allocator(), calls.len())?;
-    let calls = mem::replace(calls, next);
-    before.push(Round { calls })?;
-    Ok(())
 }
 
 /// Adds a call of a caller. A script may have many rounds of one call, so the first call takes no more

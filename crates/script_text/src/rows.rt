@@ -3,7 +3,7 @@
 //! A row is a line but for its numbers. That of a call is the number of the call's word among those of its
 //! kind: so another call is a line of its kind's two functions here.
 ghost use Rattle.std.specs.Prelude.{◌≡◌};
-ghost use Rattle.script_text.specs.Rows.{count, with_number, call_of, call_parts, object_of, object_parts, line_parts, made, IsMakeable};
+ghost use Rattle.script_text.specs.Rows.{count, with_number, call_of, call_parts, object_of, line_parts, made, IsMakeable, IsMakeableObject};
 
 use crate::lines::{Kind, Line};
 use crate::scripts::{Call, ObjectLine};
@@ -19,7 +19,6 @@ pub enum Numbers {
 }
 
 impl Numbers {
-    #[inline(always)]
     pub fn count(self) -> u8
         ensures { result ≡ count self }
     {
@@ -32,7 +31,6 @@ impl Numbers {
     }
 
     /// With one more at the end.
-    #[inline(always)]
     pub fn with(self, number: u64) -> Numbers
         ensures { result ≡ with_number self number }
     {
@@ -124,27 +122,6 @@ fn call_parts(call: Call) -> (&'static str, Numbers)
 
 // ---- lines
 
-fn object_parts(object: ObjectLine) -> (&'static str, Numbers)
-    ensures { (result.0.now, result.1) ≡ object_parts object }
-{
-    match object {
-        ObjectLine::List {
-            locales,
-            objects,
-            width,
-        } => ("list", three(locales, objects, width)),
-        ObjectLine::Bag {
-            locales,
-            segments,
-            room,
-        } => ("bag", three(locales, segments, room)),
-        ObjectLine::Deque { locales, capacity } => (
-            "deque",
-            Numbers::Two(locales.into(), capacity.into()),
-        ),
-    }
-}
-
 fn three(first: u8, second: u32, third: u32) -> Numbers
     ensures { result ≡ Numbers.Three first second third }
 {
@@ -158,7 +135,22 @@ pub fn line_parts(line: Line) -> (&'static str, Numbers)
 {
     match line {
         Line::Pgas => ("1", Numbers::Zero),
-        Line::Object(object) => object_parts(object),
+        Line::Object(object) => match object {
+            ObjectLine::List {
+                locales,
+                objects,
+                width,
+            } => ("list", three(locales, objects, width)),
+            ObjectLine::Bag {
+                locales,
+                segments,
+                room,
+            } => ("bag", three(locales, segments, room)),
+            ObjectLine::Deque { locales, capacity } => (
+                "deque",
+                Numbers::Two(locales.into(), capacity.into()),
+            ),
+        },
         Line::Callers(number) => ("callers", Numbers::One(u64::from(number))),
         Line::Caller(number) => ("caller", Numbers::One(u64::from(number))),
         Line::Round => ("round", Numbers::Zero),
@@ -167,23 +159,24 @@ pub fn line_parts(line: Line) -> (&'static str, Numbers)
     }
 }
 
-fn object_of(kind: Kind, locales: u8, second: u32, third: u32) -> ObjectLine
+fn object_of(kind: Kind, locales: u64, second: u64, third: u64) -> ObjectLine
+    requires { IsMakeableObject (Numbers.Three locales second third) }
     ensures { result ≡ object_of kind locales second third }
 {
     match kind {
         Kind::List => ObjectLine::List {
-            locales,
-            objects: second,
-            width: third,
+            locales: locales as u8,
+            objects: second as u32,
+            width: third as u32,
         },
         Kind::Bag => ObjectLine::Bag {
-            locales,
-            segments: second,
-            room: third,
+            locales: locales as u8,
+            segments: second as u32,
+            room: third as u32,
         },
         Kind::Deque => ObjectLine::Deque {
-            locales,
-            capacity: second,
+            locales: locales as u8,
+            capacity: second as u32,
         },
     }
 }
@@ -201,12 +194,7 @@ pub fn made(row: Row, numbers: Numbers) -> Line
         Numbers::Three(first, second, third) => (first, second, third),
     };
     match row {
-        Row::Object(kind) => Line::Object(object_of(
-            kind,
-            first as u8,
-            second as u32,
-            third as u32,
-        )),
+        Row::Object(kind) => Line::Object(object_of(kind, first, second, third)),
         Row::Callers(_) => Line::Callers(first as u32),
         Row::Caller(_) => Line::Caller(first as u32),
         Row::Call(kind, word, once) => Line::Call(call_of(kind, word, once, first, second, third)),

@@ -3,23 +3,15 @@ ghost use Rattle.line_text.specs.Words.{spaced};
 ghost use Rattle.script_text.specs.Replies.{reply_text, caller_text, left_text, replies_text};
 ghost use Rattle.script_text.specs.Rows.{listed, written_line};
 ghost use Rattle.script_text.specs.ScriptText.{HasScript};
-ghost use Rattle.script_text.specs.Scripts.{written, written_head, plain_script, IsValid, written_calls, plain_round, written_callers, written_rounds};
+ghost use Rattle.script_text.specs.Scripts.{written, plain_script, IsValid, written_calls, plain_round, written_callers, written_rounds};
 
 use crate::lines::Line;
 use crate::replies::{Left, Replies, Reply};
 use crate::rows::{Numbers, line_parts};
 use crate::scripts::{Call, ObjectLine, Round, Script};
-use itoa::Buffer;
+use line_text::push_number;
 use std::alloc::{AllocError, Global};
 use std::fmt::Write;
-
-/// Adds a number.
-fn push_number(text: &mut String, number: u64) -> Result<(), AllocError>
-    ensures { OnOk result (string_bytes text.new ≡ string_bytes text.old ++ decimal number) }
-{
-    let mut buffer = Buffer::new();
-    text.push_str(buffer.format(number))
-}
 
 /// Adds a line of words and a number.
 fn push_line(text: &mut String, words: &str, number: u64) -> Result<(), AllocError>
