@@ -1,7 +1,7 @@
 //! The words and the numbers of each line.
 //!
 //! A row is a line but for its numbers. That of a call is the number of the call's word among those of its
-//! kind: so another call is a line of its kind's two functions here.
+//! kind: so another call is a line of `call_of` and one of `call_parts`.
 ghost use Rattle.std.specs.Prelude.{◌≡◌};
 ghost use Rattle.script_text.specs.Rows.{count, with_number, call_of, call_parts, object_of, line_parts, made, IsMakeable, IsMakeableObject};
 
