@@ -2,6 +2,7 @@ pub use Rattle.shared_io.specs.Counts
 pub mod Fronts
 pub mod Letters
 pub mod Lines
+pub mod Ranges
 pub mod Readings
 pub mod Scans
 pub mod States

@@ -19,7 +19,8 @@ use Rattle.run_text.specs.declared.forms.RunLine.TheVariants as line
 use Rattle.run_text.specs.declared.forms.Spot.TheVariants.{First, ShapeWord, Locales, Tokens, Objects, Width, StartWord, Epoch, Count, Stack, SeatsWord, Seats}
 use Rattle.run_text.specs.declared.runs.StepLine.{StepLine}
 use Rattle.run_text.specs.Drawn.{Drawn}
-use Rattle.run_text.specs.Forms.{between, objects_most, run_grammar, width_most}
+use Rattle.line_text.specs.Ranges.{between}
+use Rattle.run_text.specs.Forms.{objects_most, run_grammar, width_most}
 use Rattle.run_text.specs.Runs.{IsOpening, IsStep, PlainRun}
 use Rattle.run_text.specs.RunText.{ends_run, is_step, opening, run_rules, run_text, start_of}
 use Rattle.run_text.specs.Written.{head_text, numbered, seats_words, shape_words, start_words, step_line, step_words, steps_text, version_words, ReadBack}

@@ -21,7 +21,8 @@ use Rattle.run_text.specs.declared.verbs.LocaleVerb.TheVariants as locale
 use Rattle.run_text.specs.declared.verbs.NumberVerb.TheVariants as number
 use Rattle.run_text.specs.declared.verbs.PointerVerb.{PointerVerb}
 use Rattle.run_text.specs.declared.verbs.PointerVerb.TheVariants as pointer
-use Rattle.run_text.specs.Forms.{between, bounds_of, after_number, after_pointer, joined_of, run_grammar, IsSpot}
+use Rattle.line_text.specs.Ranges.{between}
+use Rattle.run_text.specs.Forms.{bounds_of, after_number, after_pointer, joined_of, run_grammar, IsSpot}
 use Rattle.run_text.specs.Listing.{pointer_word}
 use Rattle.run_text.specs.Runs.{IsKind, IsStep}
 use Rattle.run_text.specs.Written.{kind_text, step_words}

@@ -6,8 +6,8 @@ use Rattle.pgas_base.specs.Starts.{IsStart}
 use Rattle.epoch_laws.specs.declared.steps.Kind.{Kind as StepKind}
 use Rattle.epoch_laws.specs.declared.steps.Kind.TheVariants as kind
 use Rattle.line_text.specs.declared.forms.Bounds.{Bounds}
-use Rattle.line_text.specs.declared.forms.Reject.TheVariants.{Bad}
 use Rattle.line_text.specs.Lines.{Grammar}
+use Rattle.line_text.specs.Ranges.{between}
 use Rattle.run_text.specs.declared.forms.RunLine.{RunLine}
 use Rattle.run_text.specs.declared.forms.RunLine.TheVariants as line
 use Rattle.run_text.specs.declared.forms.Spot.{Spot}
@@ -128,9 +128,6 @@ after_word (Kind seat) index = after_kind seat index
 after_word spot index = spot
 
 -- ---- numbers
-
-abbrev pub between : ℕ → ℕ → Bounds
-between least most = record { least = least; most = most; above = Bad }
 
 -- so many objects that each may have the least width
 abbrev pub objects_most : ℕ → ℕ

@@ -1,5 +1,5 @@
 -- The forms of a line of a run are a grammar.
-use Rattle.std.proofs.Common.{◌≡◌, ℕ, zero, suc, ◌+◌, ◌-◌, ◌*◌, ◌/◌, ◌<◌, ◌≤◌, ◌^◌, ◌&&◌, Bool, true, false, List, [], ◌∷◌, ◌++◌, length, slice_index_or, Some, None, Ok, codes, refl, ap, ◌∙◌, arith, subst, inr}
+use Rattle.std.proofs.Common.{◌≡◌, ℕ, ◌+◌, ◌-◌, ◌*◌, ◌/◌, ◌<◌, ◌≤◌, ◌^◌, true, false, List, [], ◌∷◌, ◌++◌, length, Some, None, Ok, codes, refl, ap, ◌∙◌, arith, subst}
 use Rattle.std.specs.List.{AllByRecursion}
 use Rattle.std.proofs.Math.Nat.{div-mul-le_self}
 use Rattle.std.proofs.lemmas.Bool.{false≢true}
@@ -8,6 +8,7 @@ use Rattle.std.proofs.lemmas.Option.{none-some, same_Some}
 use Rattle.line_text.specs.declared.forms.Bounds.{Bounds}
 use Rattle.line_text.specs.Letters.{words_from, all_at}
 use Rattle.line_text.specs.Lines.{IsGrammar, IsBounds, MayJoin, then_leads, says_number, says_words, word_leads, word_at}
+use Rattle.line_text.specs.Ranges.{between, between_sound}
 use Rattle.line_text.specs.Words.{Cut, cut, with_letter, words_of as words_in, AreLetters}
 use Rattle.line_text.proofs.WrittenWords.{number_leads_on}
 use Rattle.epoch_laws.specs.declared.steps.Kind.TheVariants as kind
@@ -20,7 +21,7 @@ use Rattle.run_text.specs.declared.verbs.NumberVerb.TheVariants as number
 use Rattle.run_text.specs.declared.verbs.PointerVerb.{PointerVerb}
 use Rattle.run_text.specs.declared.verbs.PointerVerb.TheVariants as pointer
 use Rattle.pgas_base.specs.Pointers.{Pointer as Ptr, IsPointer}
-use Rattle.run_text.specs.Forms.{kind_words, kind_spots, words_of, after_word, between, objects_most, width_most, bounds_of, after_locale, after_number_of, after_pointer, after_number, joined_of, run_grammar, IsVerb, IsSpot}
+use Rattle.run_text.specs.Forms.{kind_words, kind_spots, words_of, after_word, objects_most, width_most, bounds_of, after_locale, after_number_of, after_pointer, after_number, joined_of, run_grammar, IsVerb, IsSpot}
 
 -- ---- words
 
@@ -67,9 +68,6 @@ width_some locales objects some some_object few = omega (arith, width_room local
 -- a quotient keeps its bound
 mul_quotient : (n m k : ℕ) → k ≤ n / m → k * m ≤ n
 mul_quotient n m k below = omega (arith, mul-le k m (n / m) m below (omega arith), div-mul-le_self n m)
-
-between_sound : (least most : ℕ) → least ≤ 9 → least ≤ most → most < 2 ^ 64 → IsBounds (between least most)
-between_sound least most digit some fits = record { digit = digit; some = some; fits = fits; one_sided = inr refl }
 
 bounds_sound : (spot : Spot) (bounds : Bounds) → IsSpot spot → bounds_of spot ≡ Some bounds → IsBounds bounds
 bounds_sound Locales own is same = subst IsBounds (same_Some (between 1 16) own same) (between_sound 1 16 (omega arith) (omega arith) (omega arith))

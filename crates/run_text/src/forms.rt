@@ -1,11 +1,11 @@
 ghost use Rattle.std.specs.Prelude.{◌≡◌, ◌<◌, ◌≤◌, ◌^◌, ◌*◌};
-ghost use Rattle.run_text.specs.Forms.{IsSpot, after_kind, after_locale, after_number_of, after_pointer, between, kind_word, objects_most, run_grammar, step_spot, width_most};
+ghost use Rattle.run_text.specs.Forms.{IsSpot, after_kind, after_locale, after_number_of, after_pointer, kind_word, objects_most, run_grammar, step_spot, width_most};
 ghost use Rattle.run_text.specs.Sound.{run_grammar_sound};
 ghost use Rattle.run_text.specs.declared.forms.Spot.TheVariants.{Locale, Pointer};
 
 use crate::verbs::{LocaleVerb, NumberVerb, PointerVerb};
 use epoch_core::{Kind, Step};
-use line_text::{Bounds, Form, Reject};
+use line_text::{Bounds, Form};
 use pgas_base::{Ptr, Shape, Start};
 
 /// What a line of a run says.
@@ -113,17 +113,6 @@ fn width_most(locales: u8, objects: u32) -> u64
     ensures { result ≡ width_most locales objects }
 {
     ((1 << 25) / (u64::from(locales) * u64::from(objects)) - 2).min(4096)
-}
-
-#[inline(always)]
-fn between(least: u64, most: u64) -> Bounds
-    ensures { result ≡ between least most }
-{
-    Bounds {
-        least,
-        most,
-        above: Reject::Bad,
-    }
 }
 
 #[inline(always)]
@@ -338,23 +327,23 @@ impl Form<RunLine> for Spot {
     #[inline(always)]
     fn bounds(self) -> Option<Bounds> {
         match self {
-            Spot::Locales => Some(between(1, 16)),
-            Spot::Tokens { .. } | Spot::Seats => Some(between(1, 1024)),
-            Spot::Objects { locales, .. } => Some(between(1, objects_most(locales))),
+            Spot::Locales => Some(Bounds::between(1, 16)),
+            Spot::Tokens { .. } | Spot::Seats => Some(Bounds::between(1, 1024)),
+            Spot::Objects { locales, .. } => Some(Bounds::between(1, objects_most(locales))),
             Spot::Width {
                 locales,
                 objects,
                 ..
-            } => Some(between(2, width_most(locales, objects))),
-            Spot::Epoch => Some(between(1, 1 << 62)),
-            Spot::Stack { .. } => Some(between(0, (1 << 40) - 1)),
+            } => Some(Bounds::between(2, width_most(locales, objects))),
+            Spot::Epoch => Some(Bounds::between(1, 1 << 62)),
+            Spot::Stack { .. } => Some(Bounds::between(0, (1 << 40) - 1)),
             Spot::Seat | Spot::Count { .. } | Spot::Number { .. } | Spot::Uses { .. } => Some(
-                between(0, MOST_COUNT),
+                Bounds::between(0, MOST_COUNT),
             ),
-            Spot::Locale { .. } => Some(between(0, 255)),
-            Spot::Pointer { .. } => Some(between(0, 15)),
-            Spot::Index { .. } => Some(between(1, (1 << 24) - 1)),
-            Spot::Next { .. } => Some(between(0, u64::MAX)),
+            Spot::Locale { .. } => Some(Bounds::between(0, 255)),
+            Spot::Pointer { .. } => Some(Bounds::between(0, 15)),
+            Spot::Index { .. } => Some(Bounds::between(1, (1 << 24) - 1)),
+            Spot::Next { .. } => Some(Bounds::between(0, u64::MAX)),
             _ => None,
         }
     }

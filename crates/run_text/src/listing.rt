@@ -3,7 +3,7 @@ ghost use Rattle.run_text.specs.Listing.{checked_text, end_line, end_words, even
 
 use crate::checking::{Checked, RunEnd};
 use epoch_core::{EpochEvent, Item, Token};
-use itoa::Buffer;
+use line_text::push_number;
 use pgas_base::Ptr;
 use std::alloc::{AllocError, Global};
 
@@ -16,13 +16,6 @@ pub fn write_checked(alloc: Global, checked: &Checked, steps: usize) -> Result<S
     push_items(&mut text, checked.items.as_slice())?;
     push_end(&mut text, checked.end, steps)?;
     Ok(text)
-}
-
-pub(crate) fn push_number(text: &mut String, number: u64) -> Result<(), AllocError>
-    ensures { OnOk result (string_bytes text.new ≡ string_bytes text.old ++ decimal number) }
-{
-    let mut buffer = Buffer::new();
-    text.push_str(buffer.format(number))
 }
 
 fn push_items(text: &mut String, items: &[Item]) -> Result<(), AllocError>

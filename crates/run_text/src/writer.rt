@@ -3,9 +3,10 @@ ghost use Rattle.run_text.specs.Listing.{pointer_word};
 ghost use Rattle.run_text.specs.Runs.{IsOpening, plain_run};
 ghost use Rattle.run_text.specs.Written.{head_text, kind_text, run_lines, shape_words, start_words, step_line, steps_text};
 
-use crate::listing::{push_number, push_pointer};
+use crate::listing::push_pointer;
 use crate::runs::{RunText, StepLine};
 use epoch_core::{Kind, Step};
+use line_text::push_number;
 use pgas_base::{Ptr, Shape, Start};
 use std::alloc::{AllocError, Global};
 

@@ -139,11 +139,7 @@ number_costs stage spot bounds number digits is own fits longer written =
 
 said_whole : (spot : Spot) (line : Line) → says_of spot ≡ Some line → spot ≡ Whole line
 said_whole (Whole own) line says = ap (λ l. Whole l) (same_Some own line says)
-said_whole (Start stage) line says = absurd (none-some line says)
-said_whole Version line says = absurd (none-some line says)
-said_whole AKind line says = absurd (none-some line says)
-said_whole (Try kind) line says = absurd (none-some line says)
-said_whole (ARow row n) line says = absurd (none-some line says)
+said_whole spot line says = absurd (none-some line says)
 
 line_size : (line : Line) → length (written_line line) ≡ length (spaced (line_words line))
 line_size line = by (words_of line) (some_words line)

@@ -2,7 +2,7 @@
 use Rattle.std.proofs.Common.{◌≡◌, ℕ, ◌<◌, ◌≤◌, ◌^◌, refl, arith}
 use Rattle.script_text.specs.declared.forms.Spot.TheVariants.{Row as ARow}
 use Rattle.script_text.specs.declared.lines.Kind.{Kind}
-use Rattle.script_text.specs.declared.lines.Kind.TheVariants.{List as KList, Bag as KBag, Deque as KDeque}
+use Rattle.script_text.specs.declared.lines.Kind.TheVariants.{List as KList, Bag as KBag}
 use Rattle.script_text.specs.declared.lines.Stage.{Stage}
 use Rattle.script_text.specs.declared.rows.Numbers.{Numbers}
 use Rattle.script_text.specs.declared.rows.Numbers.TheVariants.{Zero, One, Two, Three}
@@ -15,14 +15,9 @@ use Rattle.script_text.specs.Rows.{nth, with_number, IsMakeableObject, IsMakeabl
 object_most : (n : Numbers) (kind : Kind) → (object_bounds n kind).most ≤ 2 ^ 24
 object_most Zero kind = omega arith
 object_most (One locales) KList = omega arith
-object_most (One locales) KBag = omega arith
-object_most (One locales) KDeque = omega arith
 object_most (Two locales objects) KList = omega arith
-object_most (Two locales segments) KBag = omega arith
-object_most (Two locales capacity) KDeque = omega arith
-object_most (Three locales second third) KList = omega arith
-object_most (Three locales second third) KBag = omega arith
-object_most (Three locales second third) KDeque = omega arith
+object_most (One locales) KBag = omega arith
+object_most n kind = omega arith
 
 object_fits : (kind : Kind) (n : Numbers) → IsFront (Object kind) n → IsMakeableObject n
 object_fits kind Zero front = (omega arith, omega arith, omega arith)

@@ -1,8 +1,8 @@
 -- What a line of a script may be, word by word.
 use Rattle.std.specs.Prelude.{◌≡◌, ℕ, zero, suc, ◌+◌, ◌-◌, ◌*◌, ◌/◌, ◌<◌, ◌≤◌, ◌^◌, ◌==◌, min, nat_lt, if◌then◌else◌, Bool, true, false, List, [], ◌∷◌, ◌++◌, Option, Some, None, is_some, codes}
 use Rattle.line_text.specs.declared.forms.Bounds.{Bounds}
-use Rattle.line_text.specs.declared.forms.Reject.TheVariants.{Bad}
 use Rattle.line_text.specs.Lines.{Grammar}
+use Rattle.line_text.specs.Ranges.{between}
 use Rattle.script_text.specs.declared.forms.Spot.{Spot}
 use Rattle.script_text.specs.declared.forms.Spot.TheVariants.{Start, Version, Kind as AKind, Try, Row as ARow, Whole}
 use Rattle.script_text.specs.declared.lines.Kind.{Kind}
@@ -90,9 +90,6 @@ after_word (Try kind) index = call_spot kind index true
 after_word spot index = spot
 
 -- ---- numbers
-
-abbrev pub between : ℕ → ℕ → Bounds
-between least most = record { least = least; most = most; above = Bad }
 
 -- the objects of a list leave room for rows of two words, and the width for all of them
 abbrev pub object_bounds : Numbers → Kind → Bounds

@@ -1,11 +1,12 @@
 -- The numbers of a row: each leaves those behind it some number, and with its last the row is a line that may come.
-use Rattle.std.proofs.Common.{◌≡◌, ℕ, zero, suc, ◌+◌, ◌-◌, ◌*◌, ◌/◌, ◌<◌, ◌≤◌, ◌^◌, ◌==◌, min, Bool, true, List, [], ◌∷◌, ◌++◌, length, take, All, refl, ap, sym, ◌∙◌, arith, subst, inr}
+use Rattle.std.proofs.Common.{◌≡◌, ℕ, zero, suc, ◌+◌, ◌-◌, ◌*◌, ◌/◌, ◌<◌, ◌≤◌, ◌^◌, ◌==◌, min, Bool, true, List, [], ◌∷◌, ◌++◌, length, take, All, refl, ap, sym, ◌∙◌, arith, subst}
 use Rattle.std.proofs.lemmas.Bool.{cond-true, cond-false, eq-eqb, ne_eqb, false≢true}
 use Rattle.std.proofs.lemmas.List.{length_push}
 use Rattle.std.proofs.lemmas.List.Elements.{All-nil, All-cons}
 use Rattle.std.proofs.lemmas.Nat.{mul-le, le-div, div-add-mod'}
 use Rattle.std.proofs.Math.Nat.{mul_comm}
 use Rattle.line_text.specs.Lines.{IsBounds}
+use Rattle.line_text.specs.Ranges.{between_sound}
 use Rattle.script_text.specs.declared.forms.Spot.TheVariants.{Row as ARow, Whole}
 use Rattle.script_text.specs.declared.lines.Kind.{Kind}
 use Rattle.script_text.specs.declared.lines.Kind.TheVariants.{List as KList, Bag as KBag, Deque as KDeque}
@@ -19,9 +20,9 @@ use Rattle.script_text.specs.declared.rows.Row.{Row}
 use Rattle.script_text.specs.declared.rows.Row.TheVariants.{Object, Callers, Caller, Call}
 use Rattle.script_text.specs.declared.scripts.ObjectLine.{ObjectLine as AnObject}
 use Rattle.script_text.specs.declared.scripts.ObjectLine.TheVariants.{List as AList, Bag as ABag, Deque as ADeque}
-use Rattle.script_text.specs.Forms.{between, bounds_of, count_of, row_spot, In, IsFront, RowAt, IsStage}
+use Rattle.script_text.specs.Forms.{bounds_of, count_of, row_spot, In, IsFront, RowAt, IsStage}
 use Rattle.script_text.specs.Lines.{IsOfObject, IsCallOf, MayCome, most_callers}
-use Rattle.script_text.specs.Rows.{count, listed, nth, with_number, kind_of, is_once, line_parts, fronts, words_of, call_of, numbers_of, made}
+use Rattle.script_text.specs.Rows.{count, listed, nth, with_number, kind_of, is_once, line_parts, fronts, words_of, call_made, numbers_of, made}
 
 -- ---- a row and its line
 
@@ -120,9 +121,6 @@ mul_quotient n m k below =
 pub list_words : (locales objects : ℕ) → objects ≤ 2 ^ 25 / (4 * locales) → locales * objects * 4 ≤ 2 ^ 25
 list_words locales objects below = omega (arith, mul_quotient (2 ^ 25) (4 * locales) objects below)
 
-between_sound : (least most : ℕ) → least ≤ 9 → least ≤ most → most < 2 ^ 64 → IsBounds (between least most)
-between_sound least most digit some fits = record { digit = digit; some = some; fits = fits; one_sided = inr refl }
-
 pub some_callers : (object : AnObject) → (1 ≤ most_callers object) × (most_callers object < 2 ^ 32)
 some_callers (AList locales objects width) = (omega arith, omega arith)
 some_callers (ABag locales segments room) = (omega arith, omega arith)
@@ -139,12 +137,7 @@ object_sound KList (Two locales objects) front =
     let room : 4 ≤ 2 ^ 25 / (locales * objects) = le-div 4 (2 ^ 25) (locales * objects) (omega (arith, positive)) (omega (arith, words)) in
     between_sound 2 (min (2 ^ 25 / (locales * objects) - 2) 4096) (omega arith) (omega (arith, room)) (omega arith)
 object_sound KBag (One locales) front = between_sound 1 64 (omega arith) (omega arith) (omega arith)
-object_sound KList (Three locales objects width) front = between_sound 1 (2 ^ 24) (omega arith) (omega arith) (omega arith)
-object_sound KBag (Two locales segments) front = between_sound 1 (2 ^ 24) (omega arith) (omega arith) (omega arith)
-object_sound KBag (Three locales segments room) front = between_sound 1 (2 ^ 24) (omega arith) (omega arith) (omega arith)
-object_sound KDeque (One locales) front = between_sound 1 (2 ^ 24) (omega arith) (omega arith) (omega arith)
-object_sound KDeque (Two locales capacity) front = between_sound 1 (2 ^ 24) (omega arith) (omega arith) (omega arith)
-object_sound KDeque (Three locales capacity other) front = between_sound 1 (2 ^ 24) (omega arith) (omega arith) (omega arith)
+object_sound kind n front = between_sound 1 (2 ^ 24) (omega arith) (omega arith) (omega arith)
 
 pub bounds_sound : (stage : Stage) (row : Row) (n : Numbers) → RowAt stage row → IsFront row n → IsBounds (bounds_of row n)
 bounds_sound stage (Object kind) n at front = object_sound kind n front
@@ -174,7 +167,7 @@ object_may KDeque n front whole =
     let second = fields.1 (omega (arith, whole)) in
     (first.0, first.1, second.0, second.1)
 
-of_kind : (object : AnObject) (word : ℕ) (once : Bool) (n : Numbers) → IsOfObject object (call_of (kind_of object) word once n) × (is_once (call_of (kind_of object) word once n) ≡ true → once ≡ true)
+of_kind : (object : AnObject) (word : ℕ) (once : Bool) (n : Numbers) → IsOfObject object (call_made (kind_of object) word once n) × (is_once (call_made (kind_of object) word once n) ≡ true → once ≡ true)
 of_kind (AList locales objects width) word once n = (tt, λ is. absurd (false≢true is))
 of_kind (ABag locales segments room) word once n = (tt, λ is. is)
 of_kind (ADeque locales capacity) word once n = (tt, λ is. is)
@@ -190,7 +183,7 @@ small_numbers kind word once (Three first second third) front =
     All-cons Small first (second ∷ third ∷ []) (omega (arith, front.0)) (All-cons Small second (third ∷ []) (omega (arith, front.1)) (All-cons Small third [] (omega (arith, front.2)) (All-nil Small)))
 
 call_may : (object : AnObject) (callers word : ℕ) (once : Bool) (n : Numbers) → (once ≡ true → callers ≡ 1) → IsFront (Call (kind_of object) word once) n → count n ≡ count_of (Call (kind_of object) word once)
-    → IsCallOf object callers (call_of (kind_of object) word once n)
+    → IsCallOf object callers (call_made (kind_of object) word once n)
 call_may object callers word once n one front whole = record {
   of_object = (of_kind object word once n).0;
   once = λ is. one ((of_kind object word once n).1 is);
@@ -204,5 +197,5 @@ line_may stage (Caller callers) n at front whole staged =
     let some : 1 ≤ callers = (subst IsStage at.2 staged).0 in
     subst (λ (s : Stage). MayCome s (CallerLine (nth n 0))) (sym at.2) (omega (arith, (front_fields (Caller callers) n front).0 (omega (arith, whole)), some))
 line_may stage (Call kind word once) n at front whole staged =
-    subst (λ (s : Stage). MayCome s (CallLine (call_of kind word once n))) (sym at.3)
-    (subst (λ (k : Kind). IsFront (Call k word once) n → count n ≡ count_of (Call k word once) → IsCallOf at.0 at.1 (call_of k word once n)) (sym at.4) (call_may at.0 at.1 word once n at.5) front whole)
+    subst (λ (s : Stage). MayCome s (CallLine (call_made kind word once n))) (sym at.3)
+    (subst (λ (k : Kind). IsFront (Call k word once) n → count n ≡ count_of (Call k word once) → IsCallOf at.0 at.1 (call_made k word once n)) (sym at.4) (call_may at.0 at.1 word once n at.5) front whole)

@@ -43,28 +43,28 @@ with_number (Three first second third) number = Three first second number
 
 -- ---- calls, by the numbers of their words
 
-abbrev pub list_call : ℕ → Numbers → ListCall
-list_call zero n = Read (nth n 0)
-list_call (suc zero) n = Write (nth n 0) (nth n 1)
-list_call (suc (suc zero)) n = Swap (nth n 0) (nth n 1) (nth n 2)
-list_call (suc (suc (suc zero))) n = Add (nth n 0) (nth n 1)
-list_call (suc (suc (suc (suc zero)))) n = Grow (nth n 0)
-list_call word n = Len
+abbrev pub list_call : ℕ → ℕ → ℕ → ℕ → ListCall
+list_call zero at old new = Read at
+list_call (suc zero) at old new = Write at old
+list_call (suc (suc zero)) at old new = Swap at old new
+list_call (suc (suc (suc zero))) at old new = Add at old
+list_call (suc (suc (suc (suc zero)))) at old new = Grow at
+list_call word at old new = Len
 
-abbrev pub bag_call : ℕ → Numbers → BagCall
-bag_call zero n = Put (nth n 0)
-bag_call word n = Remove
+abbrev pub bag_call : ℕ → ℕ → BagCall
+bag_call zero item = Put item
+bag_call word item = Remove
 
-abbrev pub deque_call : ℕ → Numbers → DequeCall
-deque_call zero n = PushBack (nth n 0)
-deque_call (suc zero) n = PushFront (nth n 0)
-deque_call (suc (suc zero)) n = PopBack
-deque_call word n = PopFront
+abbrev pub deque_call : ℕ → ℕ → DequeCall
+deque_call zero item = PushBack item
+deque_call (suc zero) item = PushFront item
+deque_call (suc (suc zero)) item = PopBack
+deque_call word item = PopFront
 
-abbrev pub call_of : Kind → ℕ → Bool → Numbers → Call
-call_of KList word once n = OfList (list_call word n)
-call_of KBag word once n = OfBag (bag_call word n) once
-call_of KDeque word once n = OfDeque (deque_call word n) once
+abbrev pub call_of : Kind → ℕ → Bool → ℕ → ℕ → ℕ → Call
+call_of KList word once at old new = OfList (list_call word at old new)
+call_of KBag word once at old new = OfBag (bag_call word at) once
+call_of KDeque word once at old new = OfDeque (deque_call word at) once
 
 -- ---- the words of calls, and their numbers
 
@@ -148,17 +148,20 @@ line_words line = words_of line ++ map decimal (listed (numbers_of line))
 abbrev pub written_line : Line → List ℕ
 written_line line = words_line (line_words line) ++ 10 ∷ []
 
-abbrev pub object_of : Kind → Numbers → ObjectLine
-object_of KList n = AList (nth n 0) (nth n 1) (nth n 2)
-object_of KBag n = ABag (nth n 0) (nth n 1) (nth n 2)
-object_of KDeque n = ADeque (nth n 0) (nth n 1)
+abbrev pub object_of : Kind → ℕ → ℕ → ℕ → ObjectLine
+object_of KList locales second third = AList locales second third
+object_of KBag locales second third = ABag locales second third
+object_of KDeque locales second third = ADeque locales second
+
+abbrev pub call_made : Kind → ℕ → Bool → Numbers → Call
+call_made kind word once n = call_of kind word once (nth n 0) (nth n 1) (nth n 2)
 
 -- the line of a row with these numbers
 abbrev pub made : Row → Numbers → Line
-made (ObjectRow kind) n = Object (object_of kind n)
+made (ObjectRow kind) n = Object (object_of kind (nth n 0) (nth n 1) (nth n 2))
 made (CallersRow object) n = Callers (nth n 0)
 made (CallerRow callers) n = Caller (nth n 0)
-made (CallRow kind word once) n = ACall (call_of kind word once n)
+made (CallRow kind word once) n = ACall (call_made kind word once n)
 
 -- its last word
 abbrev pub row_word : Row → List ℕ

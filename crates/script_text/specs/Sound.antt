@@ -125,11 +125,7 @@ pub record InRow (spot : Spot) (bounds : Bounds) : Type 0 where
 
 pub in_row : (spot : Spot) (bounds : Bounds) → bounds_at spot ≡ Some bounds → InRow spot bounds
 in_row (ARow row n) bounds own = record { row = row; numbers = n; spot_is = refl; bounds_are = same_Some (bounds_of row n) bounds own }
-in_row (Start stage) bounds own = absurd (none-some bounds own)
-in_row Version bounds own = absurd (none-some bounds own)
-in_row AKind bounds own = absurd (none-some bounds own)
-in_row (Try kind) bounds own = absurd (none-some bounds own)
-in_row (Whole line) bounds own = absurd (none-some bounds own)
+in_row spot bounds own = absurd (none-some bounds own)
 
 pub number_keeps_at : (stage : Stage) (spot : Spot) (bounds : Bounds) (number : ℕ) → IsAt stage spot → bounds_at spot ≡ Some bounds → bounds.least ≤ number → number ≤ bounds.most → IsAt stage (after_number spot number)
 number_keeps_at stage spot bounds number is own least most =

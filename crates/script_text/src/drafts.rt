@@ -1,4 +1,4 @@
-ghost use Rattle.std.specs.Prelude.{◌≡◌, ◌^◌, [], ◌∷◌, ◌++◌, OnOk, IfOk, MatchResult, length, map, replicate};
+ghost use Rattle.std.specs.Prelude.{◌≡◌, [], OnOk, IfOk, map, replicate};
 ghost use Rattle.line_text.specs.Lines.{IsSaid};
 ghost use Rattle.script_text.specs.Forms.{IsSpot, script_grammar};
 ghost use Rattle.script_text.specs.Lines.{IsInRound, caller_at};
@@ -53,15 +53,11 @@ impl ScriptDraft {
         requires { IsInRound self.stage }
         ensures { IfOk result (λ script. IsMade self (plain_script script)) }
     {
-        let ScriptDraft {
-            stage,
-            before: mut rounds,
-            calls,
-        } = self;
-        let Stage::InRound(object, callers, _) = stage else {
+        let Stage::InRound(object, callers, _) = self.stage else {
             unreachable!()
         };
-        rounds.push(Round { calls })?;
+        let mut rounds = self.before;
+        rounds.push(Round { calls: self.calls })?;
         Ok(Script {
             object,
             callers,
@@ -77,13 +73,10 @@ impl Draft<Line, Spot> for ScriptDraft {
 
     ghost progress = { λ d. d };
 
-    // What is asked and taken for each line is inlined into the reader's loop, so that no line is copied from call to call.
-    #[inline(always)]
     fn start(&self) -> Spot {
         Spot::Start(self.stage)
     }
 
-    #[inline(always)]
     fn counts(&self, said: Option<Line>) -> bool
         ensures { result ≡ is_counted said }
     {
@@ -98,7 +91,6 @@ impl Draft<Line, Spot> for ScriptDraft {
         TooKind::Calls
     }
 
-    #[inline(always)]
     fn ends(&self, said: Option<Line>) -> bool
         ensures { result ≡ is_end said }
     {
@@ -111,6 +103,7 @@ impl Draft<Line, Spot> for ScriptDraft {
         self.ends(said)
     }
 
+    // This is inlined into the reader's loop, so that no line is copied from call to call.
     #[inline(always)]
     fn take(&mut self, said: Option<Line>) -> Result<(), AllocError>
         requires { IsSaid script_grammar IsSpot said }
@@ -123,7 +116,11 @@ impl Draft<Line, Spot> for ScriptDraft {
             Line::Callers(callers) => {
                 self.calls = silence(*self.calls.allocator(), callers as usize)?;
             }
-            Line::Round => end_round(&mut self.before, &mut self.calls)?,
+            Line::Round => {
+                let next = silence(*self.calls.allocator(), self.calls.len())?;
+                let calls = mem::replace(&mut self.calls, next);
+                self.before.push(Round { calls })?;
+            }
             Line::Call(call) => push_call(&mut self.calls, self.stage.caller(), call)?,
             _ => (),
         }
@@ -143,37 +140,17 @@ fn silence(alloc: Global, callers: usize) -> Result<Vec<Vec<Call>>, AllocError>
     Ok(lists)
 }
 
-/// Adds the present round to those before it, and begins another.
-fn end_round(before: &mut Vec<Round>, calls: &mut Vec<Vec<Call>>) -> Result<(), AllocError>
-    ensures before { OnOk result (map plain_round before.new.items ≡ map plain_round before.old.items ++ map (λ calls. calls.items) calls.old.items ∷ []) }
-    ensures calls { OnOk result (map (λ calls. calls.items) calls.new.items ≡ replicate (length calls.old.items) []) }
-{
-    let next = silence(*calls.allocator(), calls.len())?;
-    before.push(Round {
-        calls: mem::replace(calls, next),
-    })?;
-    Ok(())
-}
-
 /// Adds a call of a caller. A script may have many rounds of one call, so the first call takes no more
 /// memory than it needs.
 #[inline(always)]
 fn push_call(calls: &mut Vec<Vec<Call>>, caller: usize, call: Call) -> Result<(), AllocError>
     ensures { OnOk result (map (λ calls. calls.items) calls.new.items ≡ with_call caller call (map (λ calls. calls.items) calls.old.items)) }
 {
-    if caller < calls.len() {
-        add_call(&mut calls[caller], call)?;
+    if let Some(list) = calls.get_mut(caller) {
+        if list.is_empty() {
+            list.reserve_exact(1)?;
+        }
+        list.push(call)?;
     }
-    Ok(())
-}
-
-#[inline(always)]
-fn add_call(list: &mut Vec<Call>, call: Call) -> Result<(), AllocError>
-    ensures { OnOk result (list.new.items ≡ list.old.items ++ call ∷ []) }
-{
-    if list.is_empty() {
-        list.reserve_exact(1)?;
-    }
-    list.push(call)?;
     Ok(())
 }

@@ -1,13 +1,11 @@
 ghost use Rattle.std.specs.Prelude.{◌≡◌, ◌<◌, [], length, slice_index_or};
-ghost use Rattle.script_text.specs.Forms.{IsSpot, IsFront, script_grammar, kind_at, calls_at, round_start, round_leads, row_spot, between, object_bounds, bounds_of};
+ghost use Rattle.script_text.specs.Forms.{IsSpot, IsFront, script_grammar, calls_at, round_start, round_leads, row_spot, object_bounds};
 ghost use Rattle.script_text.specs.Rows.{IsMakeable, row_word};
-ghost use Rattle.script_text.specs.declared.rows.Numbers.TheVariants.{Zero};
-ghost use Rattle.script_text.specs.declared.rows.Row.TheVariants.{Object as ObjectRow};
 ghost use Rattle.script_text.specs.Sound.{script_grammar_sound};
 
 use crate::lines::{Kind, Line, Stage};
 use crate::rows::{Numbers, Row, line_parts, made};
-use line_text::{Bounds, Form, Reject};
+use line_text::{Bounds, Form};
 use pgas_base::{LEAST_WIDTH, MOST_LOCALES, MOST_OBJECTS, MOST_WIDTH, MOST_WORDS};
 use seq_objects::{MOST_CAPACITY, MOST_ROOM, MOST_SEGMENTS};
 
@@ -27,21 +25,10 @@ pub enum Spot {
     Whole(Line),
 }
 
-// ---- words
-
-/// The kind of object whose word has this number.
-fn kind_at(index: usize) -> Kind
-    ensures { result ≡ kind_at index }
-{
-    match index {
-        0 => Kind::List,
-        1 => Kind::Bag,
-        _ => Kind::Deque,
-    }
-}
+/// The kinds of object, in the order of their words.
+const KINDS: [Kind; 3] = [Kind::List, Kind::Bag, Kind::Deque];
 
 /// How many calls a line may begin with, if a `caller` line stands before it.
-#[inline(always)]
 fn calls_at(kind: Kind, spoken: bool) -> usize
     ensures { result ≡ calls_at spoken kind }
 {
@@ -91,7 +78,7 @@ fn round_leads(kind: Kind, callers: u32, spoken: bool, index: usize) -> Spot
 /// The last word of a row.
 #[inline(always)]
 fn row_word(row: Row) -> &'static str
-    requires { IsMakeable row Zero }
+    requires { IsMakeable row Numbers.Zero }
     ensures { result.now ≡ row_word row }
 {
     line_parts(made(row, Numbers::Zero)).0
@@ -110,54 +97,27 @@ fn row_spot(row: Row, numbers: Numbers) -> Spot
     Spot::Row { row, numbers }
 }
 
-// ---- numbers
-
-#[inline(always)]
-fn between(least: u64, most: u64) -> Bounds
-    ensures { result ≡ between least most }
-{
-    Bounds {
-        least,
-        most,
-        above: Reject::Bad,
-    }
-}
-
 /// The numbers that may come next in a row, so that those behind them still have one. The objects of a
 /// list leave room for rows of the least width, and the width for all of them. An object has two words
 /// beside its row.
-#[inline(always)]
 fn object_bounds(kind: Kind, numbers: Numbers) -> Bounds
-    requires { IsFront (ObjectRow kind) numbers }
+    requires { IsFront (Row.Object kind) numbers }
     ensures { result ≡ object_bounds numbers kind }
 {
     let least = u64::from(LEAST_WIDTH);
     match (numbers, kind) {
-        (Numbers::Zero, _) => between(1, u64::from(MOST_LOCALES)),
+        (Numbers::Zero, _) => Bounds::between(1, u64::from(MOST_LOCALES)),
         (Numbers::One(locales), Kind::List) => {
             let most = MOST_WORDS / ((least + 2) * locales);
-            between(2, most.min(u64::from(MOST_OBJECTS)))
+            Bounds::between(2, most.min(u64::from(MOST_OBJECTS)))
         }
         (Numbers::Two(locales, objects), Kind::List) => {
             let most = MOST_WORDS / (locales * objects) - 2;
-            between(least, most.min(u64::from(MOST_WIDTH)))
+            Bounds::between(least, most.min(u64::from(MOST_WIDTH)))
         }
-        (Numbers::One(_), Kind::Bag) => between(1, u64::from(MOST_SEGMENTS)),
-        (_, Kind::Bag) => between(1, u64::from(MOST_ROOM)),
-        _ => between(1, u64::from(MOST_CAPACITY)),
-    }
-}
-
-#[inline(always)]
-fn bounds_of(row: Row, numbers: Numbers) -> Bounds
-    requires { IsFront row numbers }
-    ensures { result ≡ bounds_of row numbers }
-{
-    match row {
-        Row::Object(kind) => object_bounds(kind, numbers),
-        Row::Callers(object) => between(1, u64::from(object.most_callers())),
-        Row::Caller(callers) => between(0, u64::from(callers.saturating_sub(1))),
-        Row::Call(..) => between(0, u64::MAX),
+        (Numbers::One(_), Kind::Bag) => Bounds::between(1, u64::from(MOST_SEGMENTS)),
+        (_, Kind::Bag) => Bounds::between(1, u64::from(MOST_ROOM)),
+        _ => Bounds::between(1, u64::from(MOST_CAPACITY)),
     }
 }
 
@@ -194,7 +154,7 @@ impl Form<Line> for Spot {
                 round_word(object.kind(), callers, caller.is_some(), index)
             }
             Spot::Version => "1",
-            Spot::Kind => row_word(Row::Object(kind_at(index))),
+            Spot::Kind => row_word(Row::Object(KINDS[index])),
             Spot::Try(kind) => row_word(Row::Call(kind, index, false)),
             Spot::Row { .. } | Spot::Whole(_) => "",
         };
@@ -211,7 +171,7 @@ impl Form<Line> for Spot {
                 return round_leads(object.kind(), callers, caller.is_some(), index);
             }
             Spot::Version => return Spot::Whole(Line::Pgas),
-            Spot::Kind => Row::Object(kind_at(index)),
+            Spot::Kind => Row::Object(KINDS[index]),
             Spot::Try(kind) => Row::Call(kind, index, true),
             Spot::Row { .. } | Spot::Whole(_) => return self,
         };
@@ -220,10 +180,15 @@ impl Form<Line> for Spot {
 
     #[inline(always)]
     fn bounds(self) -> Option<Bounds> {
-        match self {
-            Spot::Row { row, numbers } => Some(bounds_of(row, numbers)),
-            _ => None,
-        }
+        let Spot::Row { row, numbers } = self else {
+            return None;
+        };
+        Some(match row {
+            Row::Object(kind) => object_bounds(kind, numbers),
+            Row::Callers(object) => Bounds::between(1, u64::from(object.most_callers())),
+            Row::Caller(callers) => Bounds::between(0, u64::from(callers.saturating_sub(1))),
+            Row::Call(..) => Bounds::between(0, u64::MAX),
+        })
     }
 
     #[inline(always)]
@@ -234,7 +199,6 @@ impl Form<Line> for Spot {
         }
     }
 
-    #[inline(always)]
     fn says(self) -> Option<Line> {
         match self {
             Spot::Whole(line) => Some(line),

@@ -45,7 +45,6 @@ pub enum Stage {
 }
 
 impl ObjectLine {
-    #[inline(always)]
     pub fn kind(self) -> Kind
         ensures { result ≡ kind_of self }
     {
@@ -69,7 +68,6 @@ impl ObjectLine {
 
 impl Stage {
     /// Whose calls come.
-    #[inline(always)]
     pub fn caller(self) -> usize
         ensures { result ≡ caller_at self }
     {
@@ -80,20 +78,17 @@ impl Stage {
     }
 
     /// What may come behind a line.
-    #[inline(always)]
     pub fn after(self, line: Line) -> Stage
         ensures { result ≡ stage_after self line }
     {
         match (self, line) {
             (Stage::AtPgas, _) => Stage::AtObject,
             (Stage::AtObject, Line::Object(object)) => Stage::AtCallers(object),
-            (Stage::AtCallers(object), Line::Callers(callers)) => {
-                Stage::InRound(object, callers, None)
-            }
             (Stage::InRound(object, callers, _), Line::Caller(caller)) => {
                 Stage::InRound(object, callers, Some(caller))
             }
-            (Stage::InRound(object, callers, _), Line::Round) => {
+            (Stage::AtCallers(object), Line::Callers(callers))
+            | (Stage::InRound(object, callers, _), Line::Round) => {
                 Stage::InRound(object, callers, None)
             }
             (stage, _) => stage,

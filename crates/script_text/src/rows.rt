@@ -1,11 +1,9 @@
 //! The words and the numbers of each line.
 //!
 //! A row is a line but for its numbers. That of a call is the number of the call's word among those of its
-//! kind: so another call is a line of its kind's two functions here.
+//! kind: so another call is a line of `call_of` and one of `call_parts`.
 ghost use Rattle.std.specs.Prelude.{◌≡◌};
-ghost use Rattle.script_text.specs.Rows.{count, nth, with_number, call_of, list_parts, bag_parts, deque_parts, call_parts, call_numbers, object_of, object_parts, line_parts, numbers_of, made, IsMakeable, IsMakeableObject};
-ghost use Rattle.script_text.specs.declared.scripts.Call.TheVariants.{List as OfList, Bag as OfBag, Deque as OfDeque};
-ghost use Rattle.script_text.specs.declared.rows.Numbers.TheVariants.{Three};
+ghost use Rattle.script_text.specs.Rows.{count, with_number, call_of, call_parts, object_of, line_parts, made, IsMakeable, IsMakeableObject};
 
 use crate::lines::{Kind, Line};
 use crate::scripts::{Call, ObjectLine};
@@ -21,7 +19,6 @@ pub enum Numbers {
 }
 
 impl Numbers {
-    #[inline(always)]
     pub fn count(self) -> u8
         ensures { result ≡ count self }
     {
@@ -34,7 +31,6 @@ impl Numbers {
     }
 
     /// With one more at the end.
-    #[inline(always)]
     pub fn with(self, number: u64) -> Numbers
         ensures { result ≡ with_number self number }
     {
@@ -44,21 +40,6 @@ impl Numbers {
             Numbers::Two(first, second) | Numbers::Three(first, second, _) => {
                 Numbers::Three(first, second, number)
             }
-        }
-    }
-
-    /// Three of them. Those that are not there are 0.
-    #[inline(always)]
-    fn three(self) -> (u64, u64, u64)
-        ensures first { result.0 ≡ nth self 0 }
-        ensures second { result.1 ≡ nth self 1 }
-        ensures third { result.2 ≡ nth self 2 }
-    {
-        match self {
-            Numbers::Zero => (0, 0, 0),
-            Numbers::One(first) => (first, 0, 0),
-            Numbers::Two(first, second) => (first, second, 0),
-            Numbers::Three(first, second, third) => (first, second, third),
         }
     }
 }
@@ -77,127 +58,72 @@ pub enum Row {
 
 // ---- calls, by the numbers of their words: those come first that come often
 
-fn list(call: ListCall) -> Call
-    ensures { result ≡ OfList call }
-{
-    Call::List { call }
-}
-
-fn bag(call: BagCall, once: bool) -> Call
-    ensures { result ≡ OfBag call once }
-{
-    Call::Bag { call, once }
-}
-
-fn deque(call: DequeCall, once: bool) -> Call
-    ensures { result ≡ OfDeque call once }
-{
-    Call::Deque { call, once }
-}
-
 #[inline(always)]
-fn call_of(kind: Kind, word: usize, once: bool, numbers: Numbers) -> Call
-    ensures { result ≡ call_of kind word once numbers }
+fn call_of(kind: Kind, word: usize, once: bool, at: u64, old: u64, new: u64) -> Call
+    ensures { result ≡ call_of kind word once at old new }
 {
-    let (at, old, new) = numbers.three();
-    let item = at;
-    match (kind, word) {
-        (Kind::List, 0) => list(ListCall::Read { at }),
-        (Kind::List, 1) => list(ListCall::Write { at, value: old }),
-        (Kind::List, 2) => list(ListCall::Swap { at, old, new }),
-        (Kind::List, 3) => list(ListCall::Add { at, value: old }),
-        (Kind::List, 4) => list(ListCall::Grow { to: at }),
-        (Kind::List, _) => list(ListCall::Len),
-        (Kind::Bag, 0) => bag(BagCall::Add { item }, once),
-        (Kind::Bag, _) => bag(BagCall::Remove, once),
-        (Kind::Deque, 0) => deque(DequeCall::PushBack { item }, once),
-        (Kind::Deque, 1) => deque(DequeCall::PushFront { item }, once),
-        (Kind::Deque, 2) => deque(DequeCall::PopBack, once),
-        (Kind::Deque, _) => deque(DequeCall::PopFront, once),
+    match kind {
+        Kind::List => {
+            let call = match word {
+                0 => ListCall::Read { at },
+                1 => ListCall::Write { at, value: old },
+                2 => ListCall::Swap { at, old, new },
+                3 => ListCall::Add { at, value: old },
+                4 => ListCall::Grow { to: at },
+                _ => ListCall::Len,
+            };
+            Call::List { call }
+        }
+        Kind::Bag => {
+            let call = match word {
+                0 => BagCall::Add { item: at },
+                _ => BagCall::Remove,
+            };
+            Call::Bag { call, once }
+        }
+        Kind::Deque => {
+            let call = match word {
+                0 => DequeCall::PushBack { item: at },
+                1 => DequeCall::PushFront { item: at },
+                2 => DequeCall::PopBack,
+                _ => DequeCall::PopFront,
+            };
+            Call::Deque { call, once }
+        }
     }
 }
 
-// ---- the words of calls, which `try` may stand before, and their numbers
-
-#[inline(always)]
-fn list_parts(call: ListCall) -> (&'static str, Numbers)
-    ensures word { result.0.now ≡ (list_parts call).0 }
-    ensures numbers { result.1 ≡ (list_parts call).1 }
-{
-    match call {
-        ListCall::Read { at } => ("read", Numbers::One(at)),
-        ListCall::Write { at, value } => ("write", Numbers::Two(at, value)),
-        ListCall::Swap { at, old, new } => ("swap", Numbers::Three(at, old, new)),
-        ListCall::Add { at, value } => ("add", Numbers::Two(at, value)),
-        ListCall::Grow { to } => ("grow", Numbers::One(to)),
-        ListCall::Len => ("len", Numbers::Zero),
-    }
-}
-
-#[inline(always)]
-fn bag_parts(call: BagCall) -> (&'static str, Numbers)
-    ensures word { result.0.now ≡ (bag_parts call).0 }
-    ensures numbers { result.1 ≡ (bag_parts call).1 }
-{
-    match call {
-        BagCall::Add { item } => ("add", Numbers::One(item)),
-        BagCall::Remove => ("remove", Numbers::Zero),
-    }
-}
-
-#[inline(always)]
-fn deque_parts(call: DequeCall) -> (&'static str, Numbers)
-    ensures word { result.0.now ≡ (deque_parts call).0 }
-    ensures numbers { result.1 ≡ (deque_parts call).1 }
-{
-    match call {
-        DequeCall::PushBack { item } => ("push_back", Numbers::One(item)),
-        DequeCall::PushFront { item } => ("push_front", Numbers::One(item)),
-        DequeCall::PopBack => ("pop_back", Numbers::Zero),
-        DequeCall::PopFront => ("pop_front", Numbers::Zero),
-    }
-}
-
+/// The word of a call, which `try` may stand before, and its numbers.
 #[inline(always)]
 fn call_parts(call: Call) -> (&'static str, Numbers)
-    ensures word { result.0.now ≡ (call_parts call).0 }
-    ensures numbers { result.1 ≡ call_numbers call }
+    ensures { (result.0.now, result.1) ≡ call_parts call }
 {
     match call {
-        Call::List { call } => list_parts(call),
-        Call::Bag { call, .. } => bag_parts(call),
-        Call::Deque { call, .. } => deque_parts(call),
+        Call::List { call } => match call {
+            ListCall::Read { at } => ("read", Numbers::One(at)),
+            ListCall::Write { at, value } => ("write", Numbers::Two(at, value)),
+            ListCall::Swap { at, old, new } => ("swap", Numbers::Three(at, old, new)),
+            ListCall::Add { at, value } => ("add", Numbers::Two(at, value)),
+            ListCall::Grow { to } => ("grow", Numbers::One(to)),
+            ListCall::Len => ("len", Numbers::Zero),
+        },
+        Call::Bag { call, .. } => match call {
+            BagCall::Add { item } => ("add", Numbers::One(item)),
+            BagCall::Remove => ("remove", Numbers::Zero),
+        },
+        Call::Deque { call, .. } => match call {
+            DequeCall::PushBack { item } => ("push_back", Numbers::One(item)),
+            DequeCall::PushFront { item } => ("push_front", Numbers::One(item)),
+            DequeCall::PopBack => ("pop_back", Numbers::Zero),
+            DequeCall::PopFront => ("pop_front", Numbers::Zero),
+        },
     }
 }
 
 // ---- lines
 
-fn object_parts(object: ObjectLine) -> (&'static str, Numbers)
-    ensures word { result.0.now ≡ (object_parts object).0 }
-    ensures numbers { result.1 ≡ (object_parts object).1 }
-{
-    match object {
-        ObjectLine::List {
-            locales,
-            objects,
-            width,
-        } => ("list", three(locales, objects, width)),
-        ObjectLine::Bag {
-            locales,
-            segments,
-            room,
-        } => ("bag", three(locales, segments, room)),
-        ObjectLine::Deque { locales, capacity } => {
-            (
-                "deque",
-                Numbers::Two(u64::from(locales), u64::from(capacity)),
-            )
-        }
-    }
-}
-
 fn three(first: u8, second: u32, third: u32) -> Numbers
-    ensures { result ≡ Three first second third }
+    ensures { result ≡ Numbers.Three first second third }
 {
     Numbers::Three(u64::from(first), u64::from(second), u64::from(third))
 }
@@ -205,12 +131,26 @@ fn three(first: u8, second: u32, third: u32) -> Numbers
 /// The last word of a line, and its numbers.
 #[inline(always)]
 pub fn line_parts(line: Line) -> (&'static str, Numbers)
-    ensures word { result.0.now ≡ (line_parts line).0 }
-    ensures numbers { result.1 ≡ numbers_of line }
+    ensures { (result.0.now, result.1) ≡ line_parts line }
 {
     match line {
         Line::Pgas => ("1", Numbers::Zero),
-        Line::Object(object) => object_parts(object),
+        Line::Object(object) => match object {
+            ObjectLine::List {
+                locales,
+                objects,
+                width,
+            } => ("list", three(locales, objects, width)),
+            ObjectLine::Bag {
+                locales,
+                segments,
+                room,
+            } => ("bag", three(locales, segments, room)),
+            ObjectLine::Deque { locales, capacity } => (
+                "deque",
+                Numbers::Two(locales.into(), capacity.into()),
+            ),
+        },
         Line::Callers(number) => ("callers", Numbers::One(u64::from(number))),
         Line::Caller(number) => ("caller", Numbers::One(u64::from(number))),
         Line::Round => ("round", Numbers::Zero),
@@ -219,41 +159,44 @@ pub fn line_parts(line: Line) -> (&'static str, Numbers)
     }
 }
 
-fn object_of(kind: Kind, numbers: Numbers) -> ObjectLine
-    requires { IsMakeableObject numbers }
-    ensures { result ≡ object_of kind numbers }
+fn object_of(kind: Kind, locales: u64, second: u64, third: u64) -> ObjectLine
+    requires { IsMakeableObject (Numbers.Three locales second third) }
+    ensures { result ≡ object_of kind locales second third }
 {
-    let (first, second, third) = numbers.three();
-    let (locales, second, third) = (first as u8, second as u32, third as u32);
     match kind {
         Kind::List => ObjectLine::List {
-            locales,
-            objects: second,
-            width: third,
+            locales: locales as u8,
+            objects: second as u32,
+            width: third as u32,
         },
         Kind::Bag => ObjectLine::Bag {
-            locales,
-            segments: second,
-            room: third,
+            locales: locales as u8,
+            segments: second as u32,
+            room: third as u32,
         },
         Kind::Deque => ObjectLine::Deque {
-            locales,
-            capacity: second,
+            locales: locales as u8,
+            capacity: second as u32,
         },
     }
 }
 
-/// The line of a row with these numbers.
+/// The line of a row with these numbers. Those that are not there are 0.
 #[inline(always)]
 pub fn made(row: Row, numbers: Numbers) -> Line
     requires { IsMakeable row numbers }
     ensures { result ≡ made row numbers }
 {
-    let (first, _, _) = numbers.three();
+    let (first, second, third) = match numbers {
+        Numbers::Zero => (0, 0, 0),
+        Numbers::One(first) => (first, 0, 0),
+        Numbers::Two(first, second) => (first, second, 0),
+        Numbers::Three(first, second, third) => (first, second, third),
+    };
     match row {
-        Row::Object(kind) => Line::Object(object_of(kind, numbers)),
+        Row::Object(kind) => Line::Object(object_of(kind, first, second, third)),
         Row::Callers(_) => Line::Callers(first as u32),
         Row::Caller(_) => Line::Caller(first as u32),
-        Row::Call(kind, word, once) => Line::Call(call_of(kind, word, once, numbers)),
+        Row::Call(kind, word, once) => Line::Call(call_of(kind, word, once, first, second, third)),
     }
 }

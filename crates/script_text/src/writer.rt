@@ -1,25 +1,17 @@
 ghost use Rattle.std.specs.Prelude.{◌≡◌, ◌<◌, ◌++◌, ◌∷◌, [], OnOk, IfOk, string_bytes, map, decimal};
-ghost use Rattle.line_text.specs.Words.{spaced, words_line};
+ghost use Rattle.line_text.specs.Words.{spaced};
 ghost use Rattle.script_text.specs.Replies.{reply_text, caller_text, left_text, replies_text};
-ghost use Rattle.script_text.specs.Rows.{listed, words_of, written_line};
+ghost use Rattle.script_text.specs.Rows.{listed, written_line};
 ghost use Rattle.script_text.specs.ScriptText.{HasScript};
-ghost use Rattle.script_text.specs.Scripts.{written, written_head, plain_script, IsValid, written_calls, plain_round, written_callers, written_rounds};
+ghost use Rattle.script_text.specs.Scripts.{written, plain_script, IsValid, written_calls, plain_round, written_callers, written_rounds};
 
 use crate::lines::Line;
 use crate::replies::{Left, Replies, Reply};
 use crate::rows::{Numbers, line_parts};
 use crate::scripts::{Call, ObjectLine, Round, Script};
-use itoa::Buffer;
+use line_text::push_number;
 use std::alloc::{AllocError, Global};
 use std::fmt::Write;
-
-/// Adds a number.
-fn push_number(text: &mut String, number: u64) -> Result<(), AllocError>
-    ensures { OnOk result (string_bytes text.new ≡ string_bytes text.old ++ decimal number) }
-{
-    let mut buffer = Buffer::new();
-    text.push_str(buffer.format(number))
-}
 
 /// Adds a line of words and a number.
 fn push_line(text: &mut String, words: &str, number: u64) -> Result<(), AllocError>
@@ -87,21 +79,6 @@ pub fn write_replies(alloc: Global, replies: &Replies) -> Result<String, AllocEr
     Ok(text)
 }
 
-/// Adds the words of a line that stand before its numbers.
-fn push_words(text: &mut String, line: Line) -> Result<(), AllocError>
-    ensures { OnOk result (string_bytes text.new ≡ string_bytes text.old ++ words_line (words_of line)) }
-{
-    let (word, _) = line_parts(line);
-    match line {
-        Line::Pgas => text.push_str("pgas 1"),
-        Line::Object(_) => write!(text, "object {word}"),
-        Line::Call(Call::Bag { once: true, .. } | Call::Deque { once: true, .. }) => {
-            write!(text, "try {word}")
-        }
-        _ => text.push_str(word),
-    }
-}
-
 /// Adds numbers, with a space before each.
 fn push_numbers(text: &mut String, numbers: Numbers) -> Result<(), AllocError>
     ensures { OnOk result (string_bytes text.new ≡ string_bytes text.old ++ spaced (map decimal (listed numbers))) }
@@ -118,8 +95,16 @@ fn push_numbers(text: &mut String, numbers: Numbers) -> Result<(), AllocError>
 fn push_whole(text: &mut String, line: Line) -> Result<(), AllocError>
     ensures { OnOk result (string_bytes text.new ≡ string_bytes text.old ++ written_line line) }
 {
-    push_words(text, line)?;
-    push_numbers(text, line_parts(line).1)?;
+    let (word, numbers) = line_parts(line);
+    match line {
+        Line::Pgas => text.push_str("pgas 1")?,
+        Line::Object(_) => write!(text, "object {word}")?,
+        Line::Call(Call::Bag { once: true, .. } | Call::Deque { once: true, .. }) => {
+            write!(text, "try {word}")?;
+        }
+        _ => text.push_str(word)?,
+    }
+    push_numbers(text, numbers)?;
     text.push_str("\n")
 }
 
@@ -162,15 +147,6 @@ fn push_rounds(text: &mut String, rounds: &[Round]) -> Result<(), AllocError>
     Ok(())
 }
 
-/// Adds the lines before the rounds.
-fn push_head(text: &mut String, object: ObjectLine, callers: u32) -> Result<(), AllocError>
-    ensures { OnOk result (string_bytes text.new ≡ string_bytes text.old ++ written_head object callers) }
-{
-    push_whole(text, Line::Pgas)?;
-    push_whole(text, Line::Object(object))?;
-    push_whole(text, Line::Callers(callers))
-}
-
 /// The text of the script: its lines in order, with single spaces and no leading zeros, in each round a
 /// `caller` line for each caller that has calls, and a `round` line between two rounds. Each line ends
 /// with LF. `read_script` reads it as the same script.
@@ -180,7 +156,9 @@ pub fn write_script(alloc: Global, script: &Script) -> Result<String, AllocError
     ensures reads { IfOk result (λ text. HasScript (string_bytes text) (Unit {0}) (plain_script script.now)) }
 {
     let mut text = String::new(alloc);
-    push_head(&mut text, script.object, script.callers)?;
+    push_whole(&mut text, Line::Pgas)?;
+    push_whole(&mut text, Line::Object(script.object))?;
+    push_whole(&mut text, Line::Callers(script.callers))?;
     push_rounds(&mut text, &script.rounds)?;
     push_whole(&mut text, Line::End)?;
     Ok(text)

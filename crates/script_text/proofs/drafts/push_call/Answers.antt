@@ -1,8 +1,14 @@
-use Rattle.std.proofs.Common.{◌<◌, length, arith}
+use Rattle.std.proofs.Common.{◌≡◌, ◌∷◌, ◌++◌, [], List, Vec, Global, ap, ◌∙◌}
+use Rattle.script_text.specs.declared.scripts.Call.{Call}
 use Rattle.script_text.proofs.Pushed.{call_pushed}
+use Rattle.script_text.proofs.drafts.push_call.Goals.{then-is_empty+in_ok-reserve_exact, else-is_empty}
 use Rattle.script_text.proofs.drafts.push_call.Goals as goal
 
-pub returns-in_ok-add_call : goal.returns-in_ok-add_call
-returns-in_ok-add_call c =
-    let within : c.args.caller < length c.args.calls.now.items = omega (arith, c.if-caller-len.true, c.len.ensures) in
-    call_pushed c.args.calls.now.items c.args.caller c.index_mut.result.now c.add_call.new.list c.args.call within c.index_mut.ensures.value c.in_ok-add_call.ensures
+pub returns-in_ok-push : goal.returns-in_ok-push
+returns-in_ok-push c =
+    let same : c.if-is_empty.list.items ≡ c.in-Some.list.now.items = elim c.if-is_empty.branch [
+      | then-is_empty+in_ok-reserve_exact w ↦ ap (λ (l : Vec Call Global). l.items) w.list-is ∙ w.in_ok-reserve_exact.ensures.items
+      | else-is_empty w ↦ ap (λ (l : Vec Call Global). l.items) w.list-is
+    ] in
+    call_pushed c.args.calls.now.items c.args.caller c.in-Some.list.now c.push.new.self c.args.call c.in-Some.ensures.item.3.0 c.in-Some.ensures.value
+    (c.in_ok-push.ensures.items ∙ ap (λ (items : List Call). items ++ c.args.call ∷ []) same)

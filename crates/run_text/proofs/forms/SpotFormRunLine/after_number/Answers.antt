@@ -1,5 +1,6 @@
 use Rattle.std.proofs.Common.{ap, arith, ◌^◌, ◌-◌}
-use Rattle.run_text.specs.Forms.{between, bounds_of, objects_most, width_most}
+use Rattle.line_text.specs.Ranges.{between}
+use Rattle.run_text.specs.Forms.{bounds_of, objects_most, width_most}
 use Rattle.run_text.proofs.forms.SpotFormRunLine.after_number.Goals as goal
 
 pub overflow_cast-result : goal.overflow_cast-result
