@@ -1,5 +1,6 @@
 //! The hold of a link.
-ghost use Rattle.std.specs.Prelude.{◌≡◌, ◌<◌, true, length, IfSome, Contains};
+ghost use Rattle.std.specs.Prelude.{◌≡◌, ◌⊎◌, ◌↔◌, ◌<◌, true, length, IfSome, IsNone, Contains};
+ghost use Rattle.pgas_base.specs.Pointers.{IsPointer, NamesPointer, word_of};
 ghost use Rattle.epoch_laws.specs.declared.tokens.Token.{Token};
 ghost use Rattle.epoch_laws.specs.Places.{place_of};
 ghost use Rattle.epoch_laws.specs.States.{IsPlace};
@@ -15,13 +16,26 @@ use crate::phases::Phase;
 use epoch_table::Client;
 use pgas_base::{Ptr, Spot};
 
-const INDEXES: u32 = 1 << 24;
-
+// The upper half of its word.
 #[inline]
 fn object_number(ptr: &Ptr) -> u32
     ensures { result ≡ number_of (place_of ptr.now) }
 {
-    u32::from(ptr.locale()) * INDEXES + ptr.index()
+    (ptr.word() / (1 << 32)) as u32
+}
+
+// What a link names: its word is 0 or a pointer's, and one comparison tells.
+#[inline]
+fn linked(word: u64) -> Option<Ptr>
+    requires link { (word ≡ 0) ⊎ NamesPointer word }
+    ensures some { IfSome result (λ pointer. word_of pointer ≡ word) }
+    ensures pointer { IfSome result (λ pointer. IsPointer pointer) }
+    ensures none { IsNone result ↔ ¬ NamesPointer word }
+{
+    if word == 0 {
+        return None;
+    }
+    Some(Ptr::named(word))
 }
 
 // The object that was found, if any, is held once.
@@ -56,7 +70,7 @@ impl<C: Client> Manager<C> {
         ensures looked { looked pass.new ≡ looked pass.old }
     {
         let word = self.words.hold(&mut pass.pass.seat, spot);
-        let found = Ptr::of_word(word);
+        let found = linked(word);
         join(&mut pass.held, &found);
         found
     }
