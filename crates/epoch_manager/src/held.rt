@@ -1,5 +1,5 @@
 //! The objects that a pass holds, as it keeps them.
-ghost use Rattle.std.specs.Prelude.{◌≡◌, ◌<◌, ◌==◌, [], ◌∷◌, length};
+ghost use Rattle.std.specs.Prelude.{◌≡◌, ◌<◌, ◌==◌, true, [], ◌∷◌, length};
 ghost use Rattle.std.specs.List.{list_any};
 ghost use Rattle.epoch_manager.specs.HeldNumbers.{joined_number};
 
@@ -46,6 +46,13 @@ impl HeldList {
     }
 
     #[inline]
+    fn is_empty(&self) -> bool
+        ensures { result ≡ true → self.now ≡ [] }
+    {
+        self.first == MOST_HELD
+    }
+
+    #[inline(never)]
     fn has(&self, number: u32) -> bool
         ensures { result ≡ list_any (λ m. m == number) self.now }
     {
@@ -67,7 +74,7 @@ impl HeldList {
         requires { length self.old < 4 }
         ensures { self.new ≡ joined_number number self.old }
     {
-        if !self.has(number) {
+        if self.is_empty() || !self.has(number) {
             self.put(number);
         }
     }
