@@ -96,8 +96,8 @@ impl Tally {
     }
 
     pub fn count(&mut self, put: bool, taken: bool) {
-        self.put = self.put.saturating_add(u64::from(put));
-        self.taken = self.taken.saturating_add(u64::from(taken));
+        self.put = self.put.wrapping_add(u64::from(put));
+        self.taken = self.taken.wrapping_add(u64::from(taken));
     }
 
     /// Those of all threads.

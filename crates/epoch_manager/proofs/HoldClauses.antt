@@ -1,5 +1,5 @@
 -- What the clauses of a hold say.
-use Rattle.std.proofs.Common.{◌≡◌, ◌↔◌, ◌==◌, ◌&&◌, ◌<◌, ◌+◌, ◌*◌, ◌++◌, ℕ, suc, Bool, true, false, if◌then◌else◌, List, [], ◌∷◌, Option, Some, None, map, length, refl, ap, sym, ◌∙◌, subst, inl, inr, ⊎_elim, arith, eq-eqb, ne_eqb}
+use Rattle.std.proofs.Common.{◌≡◌, ◌⊎◌, ◌↔◌, ◌==◌, ◌&&◌, ◌<◌, ◌+◌, ◌*◌, ◌++◌, ℕ, suc, Bool, true, false, if◌then◌else◌, List, [], ◌∷◌, Option, Some, None, map, length, refl, ap, sym, ◌∙◌, subst, inl, inr, ⊎_elim, arith, eq-eqb, ne_eqb}
 use Rattle.std.specs.Prelude.{is_some, unwrap_or, IfSome, IsNone}
 use Rattle.std.specs.List.{Contains, list_any}
 use Rattle.std.proofs.lemmas.Bool.{false≢true, cases_Bool}
@@ -151,6 +151,9 @@ small_of q is = record { locale = is.locale; some_object = is.some_object; index
 names : (shape : Shape) → IsShape shape → (word : ℕ) → IsPlace shape (place_in word) → NamesPointer word
 unfolding place_in index_in
 names shape is word inside = (inside.some_object, (let l = inside.locale in let a = is.0 in omega arith))
+
+pub link_named : (shape : Shape) → IsShape shape → (seat : Seat) (facts : Facts) (word : ℕ) → IsLinkWord shape seat facts word → (word ≡ 0) ⊎ NamesPointer word
+link_named shape is seat facts word link = ⊎_elim (λ e. inl e) (λ l. inr (names shape is word l.inside)) link
 
 -- it is 0 where no pointer has it
 word_so : (shape : Shape) → IsShape shape → (seat : Seat) (facts : Facts) (word : ℕ) → IsLinkWord shape seat facts word → (found : Option Pointer) → IfSome found (λ q. word_of q ≡ word) → IsNone found ↔ (¬ NamesPointer word)

@@ -19,6 +19,7 @@ pub mod ReleaseLists
 pub mod ReleaseWhole
 pub mod Crowds
 pub mod PassClauses
+mod PhaseFits
 pub mod ObjectSteps
 pub mod Returned
 pub mod Reclaimed

@@ -3,6 +3,7 @@ pub mod Cells
 mod PointerWords
 pub mod Apart
 pub mod CellLaws
+pub mod PhaseParts
 pub mod Fits
 pub mod Managers
 pub mod Tokens

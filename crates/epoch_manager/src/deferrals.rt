@@ -47,9 +47,7 @@ impl<C: Client> Manager<C> {
         ensures history { (token : Token) → phase_of pass.old ≡ Phase.Pinned token → DefersObject C.terms C.Object.opens C.Object.step (plan_of self.now) (change pass.old pass.new) token ptr }
         ensures grows { IsPrefix (page pass.old).seen (page pass.new).seen }
     {
-        let Phase::Pinned { token } = pass.phase else {
-            unreachable!()
-        };
+        let token = pass.phase.pinned();
         self.defer_seat(&mut pass.pass.seat, token.locale, ptr);
     }
 }

@@ -1,44 +1,51 @@
 //! The hold of a link.
-ghost use Rattle.std.specs.Prelude.{◌≡◌, ◌<◌, true, length, IfSome, Contains};
+ghost use Rattle.std.specs.Prelude.{◌≡◌, ◌⊎◌, ◌↔◌, ◌<◌, true, length, IfSome, IsNone, Contains};
+ghost use Rattle.pgas_base.specs.Pointers.{IsPointer, NamesPointer, word_of};
 ghost use Rattle.epoch_laws.specs.declared.tokens.Token.{Token};
 ghost use Rattle.epoch_laws.specs.Places.{place_of};
 ghost use Rattle.epoch_laws.specs.States.{IsPlace};
 ghost use Rattle.epoch_table.specs.Clients.{Holds, is_link};
-ghost use Rattle.epoch_manager.specs.HeldNumbers.{number_of, joined_number, joined_numbers};
+ghost use Rattle.epoch_manager.specs.HeldNumbers.{number_of, joined_numbers};
 ghost use Rattle.epoch_manager.specs.HoldCalls.{link_word, HoldsThen, HeldAt};
 ghost use Rattle.epoch_manager.specs.Managers.{plan_of, opening_of, shape_of, pass_opening, phase_of, looked, owned_by, held_by, knows, IsSamePass};
 ghost use Rattle.epoch_manager.specs.SpotCalls.{IsReached};
 
-use crate::managers::{MOST_HELD, Manager, Pass};
+use crate::held::HeldList;
+use crate::managers::{Manager, Pass};
 use crate::phases::Phase;
-use arrayvec::ArrayVec;
 use epoch_table::Client;
 use pgas_base::{Ptr, Spot};
 
-const INDEXES: u32 = 1 << 24;
-
+// The upper half of its word.
+#[inline]
 fn object_number(ptr: &Ptr) -> u32
     ensures { result ≡ number_of (place_of ptr.now) }
 {
-    u32::from(ptr.locale()) * INDEXES + ptr.index()
+    (ptr.word() / (1 << 32)) as u32
 }
 
-fn join_number(held: &mut ArrayVec<u32, MOST_HELD>, number: u32)
-    requires room { length held.old.items < 4 }
-    ensures { held.new.items ≡ joined_number number held.old.items }
+// What a link names: its word is 0 or a pointer's, and one comparison tells.
+#[inline]
+fn linked(word: u64) -> Option<Ptr>
+    requires link { (word ≡ 0) ⊎ NamesPointer word }
+    ensures some { IfSome result (λ pointer. word_of pointer ≡ word) }
+    ensures pointer { IfSome result (λ pointer. IsPointer pointer) }
+    ensures none { IsNone result ↔ ¬ NamesPointer word }
 {
-    if !held.as_slice().contains(&number) {
-        held.insert(0, number);
+    if word == 0 {
+        return None;
     }
+    Some(Ptr::named(word))
 }
 
 // The object that was found, if any, is held once.
-fn join(held: &mut ArrayVec<u32, MOST_HELD>, found: &Option<Ptr>)
-    requires room { length held.old.items < 4 }
-    ensures { held.new.items ≡ joined_numbers found.now held.old.items }
+#[inline]
+fn join(held: &mut HeldList, found: &Option<Ptr>)
+    requires room { length held.old < 4 }
+    ensures { held.new ≡ joined_numbers found.now held.old }
 {
     if let Some(ptr) = found {
-        join_number(held, object_number(ptr));
+        held.join(object_number(ptr));
     }
 }
 
@@ -63,7 +70,7 @@ impl<C: Client> Manager<C> {
         ensures looked { looked pass.new ≡ looked pass.old }
     {
         let word = self.words.hold(&mut pass.pass.seat, spot);
-        let found = Ptr::of_word(word);
+        let found = linked(word);
         join(&mut pass.held, &found);
         found
     }

@@ -70,6 +70,7 @@ impl<C: Client> Manager<C> {
     }
 
     // Tries the locales from the first up to the second, by rising number.
+    #[inline(always)]
     fn try_range<R: Wait>(&self, rt: &R, seat: &mut TableSeat<C>, from: u8, to: u8) -> Tried
         requires seat { IsSeatOf self.now.words.table seat.old }
         requires order { from ≤ to }

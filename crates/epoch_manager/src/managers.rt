@@ -5,25 +5,21 @@ ghost use Rattle.pass_table.specs.Passes.{plan_of, pass_view};
 ghost use Rattle.epoch_manager.specs.Fits.{PassFits};
 ghost use Rattle.epoch_manager.specs.HeldNumbers.{number_of};
 
-use crate::phases::Phase;
-use arrayvec::ArrayVec;
+use crate::held::HeldList;
+use crate::stances::Stance;
 use epoch_table::{CallOf, Client, Happens, Name, Part, Plan, ReplyOf, TableNote, Words};
 use pgas_base::Shape;
 use std::alloc::Global;
-
-/// The most objects that a pass holds.
-pub const MOST_HELD: usize = 4;
 
 /// One caller's pass to a manager, by the manager's client and what that knows, calls and replies. A pass that is
 /// dropped is given up: its token stays registered, what it owns stays owned, and its entries stand in the history.
 #[derive(Drop)]
 pub struct ClientPass<K, V, Q, R> {
     pub(crate) pass: pass_table::Pass<(), Happens<Q, R>, (), Plan<K>, Part<V>, Name>,
-    pub(crate) phase: Phase,
-    // The objects that it holds: of each its locale above the low 24 bits, and its index in them.
-    pub(crate) held: ArrayVec<u32, MOST_HELD>,
+    pub(crate) phase: Stance,
+    pub(crate) held: HeldList,
     ghost fits: { ForSome (pass_view pass).plan (λ plan. PassFits plan (pass_view pass) phase) },
-    ghost holds: { held.items ≡ map number_of (pass_view pass).part.seat.held },
+    ghost holds: { held ≡ map number_of (pass_view pass).part.seat.held },
 }
 
 /// One caller's pass to a manager.

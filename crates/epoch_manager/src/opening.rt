@@ -6,9 +6,9 @@ ghost use Rattle.epoch_manager.specs.Managers.{opening_of, pass_opening};
 ghost use Rattle.epoch_manager.specs.Opened.{Breaks, IsIn, IsNew, IsIdlePass, AreOfOpening, IsOpenedWith};
 
 use crate::faults::OpenFault;
+use crate::held::HeldList;
 use crate::managers::{ClientPass, Manager, Pass};
-use crate::phases::Phase;
-use arrayvec::ArrayVec;
+use crate::stances::Stance;
 use epoch_table::{Client, TablePass, Words};
 use pgas_base::{Shape, ShapeFault, Start};
 use std::alloc::{AllocError, Global};
@@ -70,8 +70,8 @@ fn wrap<C: Client>(
     while let Some(pass) = passes.pop() {
         wrapped.push(ClientPass {
             pass,
-            phase: Phase::Idle,
-            held: ArrayVec::new(),
+            phase: Stance::idle(),
+            held: HeldList::new(),
         })?;
     }
     wrapped.as_mut_slice().reverse();

@@ -11,7 +11,7 @@ impl<K, V, Q, R> ClientPass<K, V, Q, R> {
     pub fn phase(&self) -> Phase
         ensures { result ≡ phase_of self.now }
     {
-        self.phase
+        self.phase.phase()
     }
 
     /// The caller's number, from 0.
@@ -27,6 +27,6 @@ impl<K, V, Q, R> ClientPass<K, V, Q, R> {
     pub fn held(&self) -> u32
         ensures { result ≡ length (held_by self.now) }
     {
-        self.held.len() as u32
+        self.held.len()
     }
 }

@@ -178,9 +178,7 @@ impl<C: Client> Manager<C> {
         ensures grows { IsPrefix (page pass.old).seen (page pass.new).seen }
         ensures read { (token : Token) → phase_of pass.old ≡ Phase.Registered token → ReadsWords C.terms C.Object.opens C.Object.step (plan_of self.now) (change pass.old pass.new) (ReclaimCause (shape_of self.now) token.locale result) }
     {
-        let Phase::Registered { token } = pass.phase else {
-            unreachable!()
-        };
+        let token = pass.phase.registered();
         self.reclaim_seat(&mut pass.pass.seat, token.locale)
     }
 }

@@ -61,6 +61,7 @@ fn says_free(header: u64) -> bool
 
 impl<C: Client> Manager<C> {
     // Takes the object on top of a locale's stack into the hand. After each lost exchange it looks again.
+    #[inline]
     pub(crate) fn pop<R: Wait>(&self, rt: &R, seat: &mut TableSeat<C>, locale: u8) -> Get
         requires seat { IsSeatOf self.now.words.table seat.old }
         requires below { (view_of seat.old).number < callers_of self.now }
@@ -88,6 +89,7 @@ impl<C: Client> Manager<C> {
     }
 
     // Makes the object that is in the hand the caller's own.
+    #[inline]
     pub(crate) fn own(&self, seat: &mut TableSeat<C>, locale: u8, index: u32) -> Ptr
         requires seat { IsSeatOf self.now.words.table seat.old }
         requires below { (view_of seat.old).number < callers_of self.now }
@@ -105,6 +107,7 @@ impl<C: Client> Manager<C> {
     }
 
     // Looks at the header of each object of a locale. True if one said free.
+    #[inline(never)]
     pub(crate) fn scan(&self, seat: &mut TableSeat<C>, locale: u8) -> bool
         requires seat { IsSeatOf self.now.words.table seat.old }
         requires below { (view_of seat.old).number < callers_of self.now }
@@ -124,6 +127,7 @@ impl<C: Client> Manager<C> {
     }
 
     // Walks over an object of the taken chain, which comes into the hand. It looks again while the link is pending.
+    #[inline(always)]
     fn walk<R: Wait>(&self, rt: &R, seat: &mut TableSeat<C>, ptr: Ptr) -> u64
         requires seat { IsSeatOf self.now.words.table seat.old }
         requires below { (view_of seat.old).number < callers_of self.now }
@@ -171,6 +175,7 @@ impl<C: Client> Manager<C> {
     }
 
     // Hands a chain of the hand home, from its first object to its last.
+    #[inline(never)]
     fn hand_home(&self, seat: &mut TableSeat<C>, first: Ptr, tail: Ptr)
         requires seat { IsSeatOf self.now.words.table seat.old }
         requires below { (view_of seat.old).number < callers_of self.now }

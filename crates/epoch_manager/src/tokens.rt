@@ -13,7 +13,6 @@ ghost use Rattle.epoch_manager.specs.Tokens.{TakesToken, RegistersAs, registered
 use crate::faults::TokensFull;
 use crate::managers::{Manager, Pass};
 use crate::phases::Phase;
-use arrayvec::ArrayVec;
 use epoch_laws::Token;
 use epoch_table::{Client, TableSeat};
 
@@ -54,9 +53,7 @@ impl<C: Client> Manager<C> {
         let Some(number) = taken else {
             return Err(TokensFull {});
         };
-        pass.phase = Phase::Registered {
-            token: Token { locale, number },
-        };
+        pass.phase.now_registered(Token { locale, number });
         Ok(())
     }
 
@@ -71,11 +68,9 @@ impl<C: Client> Manager<C> {
         ensures grows { IsPrefix (page pass.old).seen (page pass.new).seen }
         ensures looked { looked pass.new ≡ looked pass.old }
     {
-        let Phase::Registered { token } = pass.phase else {
-            unreachable!()
-        };
+        let token = pass.phase.registered();
         self.words.unregister(&mut pass.pass.seat, token);
-        pass.phase = Phase::Idle;
+        pass.phase.now_idle();
     }
 
     // The two steps of a pin. It gives the epoch that is announced.
@@ -105,11 +100,9 @@ impl<C: Client> Manager<C> {
         ensures history { (token : Token) → phase_of pass.old ≡ Phase.Registered token → Pins C.terms C.Object.opens C.Object.step (plan_of self.now) (change pass.old pass.new) token }
         ensures grows { IsPrefix (page pass.old).seen (page pass.new).seen }
     {
-        let Phase::Registered { token } = pass.phase else {
-            unreachable!()
-        };
+        let token = pass.phase.registered();
         self.pin_seat(&mut pass.pass.seat, token);
-        pass.phase = Phase::Pinned { token };
+        pass.phase.now_pinned();
     }
 
     /// Unpins the caller's token. All holds end.
@@ -125,11 +118,9 @@ impl<C: Client> Manager<C> {
         ensures grows { IsPrefix (page pass.old).seen (page pass.new).seen }
         ensures looked { looked pass.new ≡ looked pass.old }
     {
-        let Phase::Pinned { token } = pass.phase else {
-            unreachable!()
-        };
+        let token = pass.phase.pinned();
         self.words.unpin(&mut pass.pass.seat, token);
-        pass.held = ArrayVec::new();
-        pass.phase = Phase::Registered { token };
+        pass.held.clear();
+        pass.phase.now_unpinned();
     }
 }

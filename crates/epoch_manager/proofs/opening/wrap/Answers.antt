@@ -10,7 +10,7 @@ loop-pass-preserved g c =
     let l = c.loop-pass.invariant in
     record {
       from = moved (λ p. p.pass) _ _ _ _ _ c.in-Some.pass _ l.from c.in-Some.ensures.items c.in_ok-push.ensures.items refl;
-      idle = all_moved IsIdlePass _ _ _ c.in_ok-push.ensures.items refl l.idle;
+      idle = all_moved IsIdlePass _ _ _ c.in_ok-push.ensures.items c.idle.ensures l.idle;
       new = (All-pop (IsNew g.C.Client.terms c.args.words.now.table) _ _ (Some c.in-Some.pass) c.in-Some.ensures.items l.new).0;
     }
 

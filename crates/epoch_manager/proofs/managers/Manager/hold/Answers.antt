@@ -4,7 +4,7 @@ use Rattle.pass_table.specs.Passes.{me_of}
 use Rattle.epoch_manager.specs.HeldNumbers.{joined_numbers}
 use Rattle.epoch_manager.specs.Managers.{plan_of}
 use Rattle.epoch_manager.proofs.PassClauses.{fits_plan}
-use Rattle.epoch_manager.proofs.HoldClauses.{may_hold_so, hold_done, now_owned, now_held, now_among, now_numbered, gains_so, seen_so, holds_link, rests_held}
+use Rattle.epoch_manager.proofs.HoldClauses.{link_named, may_hold_so, hold_done, now_owned, now_held, now_among, now_numbered, gains_so, seen_so, holds_link, rests_held}
 use Rattle.epoch_manager.proofs.managers.Manager.hold.Goals as goal
 
 pub hold-word-requires-clause-may : goal.hold-word-requires-clause-may
@@ -21,6 +21,13 @@ hold-word-requires-clause-may g c =
     let is = c.requires.phase.1 in
     let shaped = subst IsShape (sym self.words.planned) self.words.shaped in
     may_hold_so K o s p shaped m m phase fits t is c.args.spot c.requires.reached c.requires.link c.requires.room
+
+pub linked-found-requires : goal.linked-found-requires
+linked-found-requires g c =
+    let self = c.args.self.now in
+    let p = plan_of self in
+    let m = me_of c.args.pass.now.pass.seat in
+    record { link = link_named p.shape (subst IsShape (sym self.words.planned) self.words.shaped) m.0.part.seat m.0.part.facts c.hold-word.result c.hold-word.ensures.holds.0 }
 
 pub invariant_of-pass : goal.invariant_of-pass
 invariant_of-pass g c =
@@ -53,11 +60,11 @@ invariant_of-pass-2 g c =
     let is = c.requires.phase.1 in
     let shaped = subst IsShape (sym self.words.planned) self.words.shaped in
     let n = me_of c.hold-word.new.seat in
-    let found = c.of_word-found.ensures in
-    let d = hold_done K o s p shaped m n phase fits t is c.args.spot c.hold-word.result c.of_word-found.result found.some found.pointer found.none c.hold-word.ensures.holds in
+    let found = c.linked-found.ensures in
+    let d = hold_done K o s p shaped m n phase fits t is c.args.spot c.hold-word.result c.linked-found.result found.some found.pointer found.none c.hold-word.ensures.holds in
     record {
       fits = fits_plan K o s p n.0 phase (ap (λ x. x.plan) c.hold-word.ensures.seat) d.fits;
-      holds = c.join.ensures ∙ (ap (λ l. joined_numbers c.of_word-found.result l) c.args.pass.now.holds ∙ sym (now_numbered K o s p shaped m n phase fits t is c.args.spot c.hold-word.result c.of_word-found.result found.some found.pointer found.none c.hold-word.ensures.holds));
+      holds = c.join.ensures ∙ (ap (λ l. joined_numbers c.linked-found.result l) c.args.pass.now.holds ∙ sym (now_numbered K o s p shaped m n phase fits t is c.args.spot c.hold-word.result c.linked-found.result found.some found.pointer found.none c.hold-word.ensures.holds));
     }
 
 pub returns-clause-owned : goal.returns-clause-owned
@@ -74,8 +81,8 @@ returns-clause-owned g c =
     let is = c.requires.phase.1 in
     let shaped = subst IsShape (sym self.words.planned) self.words.shaped in
     let n = me_of c.hold-word.new.seat in
-    let found = c.of_word-found.ensures in
-    now_owned K o s p shaped m n phase fits t is c.args.spot c.hold-word.result c.of_word-found.result found.some found.pointer found.none c.hold-word.ensures.holds
+    let found = c.linked-found.ensures in
+    now_owned K o s p shaped m n phase fits t is c.args.spot c.hold-word.result c.linked-found.result found.some found.pointer found.none c.hold-word.ensures.holds
 
 pub returns-clause-held : goal.returns-clause-held
 returns-clause-held g c =
@@ -91,8 +98,8 @@ returns-clause-held g c =
     let is = c.requires.phase.1 in
     let shaped = subst IsShape (sym self.words.planned) self.words.shaped in
     let n = me_of c.hold-word.new.seat in
-    let found = c.of_word-found.ensures in
-    now_held K o s p shaped m n phase fits t is c.args.spot c.hold-word.result c.of_word-found.result found.some found.pointer found.none c.hold-word.ensures.holds
+    let found = c.linked-found.ensures in
+    now_held K o s p shaped m n phase fits t is c.args.spot c.hold-word.result c.linked-found.result found.some found.pointer found.none c.hold-word.ensures.holds
 
 pub returns-clause-among : goal.returns-clause-among
 returns-clause-among g c =
@@ -108,8 +115,8 @@ returns-clause-among g c =
     let is = c.requires.phase.1 in
     let shaped = subst IsShape (sym self.words.planned) self.words.shaped in
     let n = me_of c.hold-word.new.seat in
-    let found = c.of_word-found.ensures in
-    now_among K o s p shaped m n phase fits t is c.args.spot c.hold-word.result c.of_word-found.result found.some found.pointer found.none c.hold-word.ensures.holds
+    let found = c.linked-found.ensures in
+    now_among K o s p shaped m n phase fits t is c.args.spot c.hold-word.result c.linked-found.result found.some found.pointer found.none c.hold-word.ensures.holds
 
 pub returns-clause-history : goal.returns-clause-history
 returns-clause-history g c =
@@ -125,12 +132,12 @@ returns-clause-history g c =
     let is = c.requires.phase.1 in
     let shaped = subst IsShape (sym self.words.planned) self.words.shaped in
     let n = me_of c.hold-word.new.seat in
-    let found = c.of_word-found.ensures in
-    let link = holds_link K o s p shaped m n phase fits t is c.args.spot c.hold-word.result c.of_word-found.result found.some found.pointer found.none c.hold-word.ensures.holds in
+    let found = c.linked-found.ensures in
+    let link = holds_link K o s p shaped m n phase fits t is c.args.spot c.hold-word.result c.linked-found.result found.some found.pointer found.none c.hold-word.ensures.holds in
     λ token so. record {
-      gains = gains_so K o s p shaped m n phase fits t is c.args.spot c.hold-word.result c.of_word-found.result found.some found.pointer found.none c.hold-word.ensures.holds token so;
+      gains = gains_so K o s p shaped m n phase fits t is c.args.spot c.hold-word.result c.linked-found.result found.some found.pointer found.none c.hold-word.ensures.holds token so;
       met = link.1.0;
       begins = link.1.1;
-      seen = seen_so K o s p shaped m n phase fits t is c.args.spot c.hold-word.result c.of_word-found.result found.some found.pointer found.none c.hold-word.ensures.holds token so;
+      seen = seen_so K o s p shaped m n phase fits t is c.args.spot c.hold-word.result c.linked-found.result found.some found.pointer found.none c.hold-word.ensures.holds token so;
       finds = link.1.3;
     }

@@ -3,6 +3,7 @@ use Rattle.pass_table.specs.Passes.{me_of}
 use Rattle.epoch_manager.specs.Managers.{plan_of, ListsItems, ReadsWords}
 use Rattle.epoch_manager.proofs.PassClauses.{stands_idle, register_done, refused_done, taken_rests, done_listed, done_read, done_begins, done_fits, Changed}
 use Rattle.epoch_manager.proofs.HoldClauses.{numbers_stay}
+use Rattle.epoch_manager.proofs.PhaseFits.{fits_as}
 use Rattle.epoch_manager.proofs.managers.Manager.register.Goals as goal
 use Rattle.epoch_manager.specs.Tokens.{registered_items, RegisterCause}
 
@@ -115,7 +116,7 @@ invariant_of-pass-2 g c =
     let idle = stands_idle m.0.part.seat phase c.requires.phase fits.stands in
     let takes = c.in-Some.ensures.takes in
     let d = register_done K o s p m n phase fits c.args.locale c.in-Some.number c.requires.phase takes c.requires.locale in
-    record { fits = done_fits K o s p m n _ _ _ _ d (ap (λ x. x.plan) c.take_token-taken.ensures.seat); holds = numbers_stay _ m.0.part _ n.0.part c.args.pass.now.holds d.goes.1 refl }
+    record { fits = fits_as n.0 _ _ c.now_registered.ensures (done_fits K o s p m n _ _ _ _ d (ap (λ x. x.plan) c.take_token-taken.ensures.seat)); holds = numbers_stay _ m.0.part _ n.0.part c.args.pass.now.holds d.goes.1 refl }
 
 pub returns-clause-history : goal.returns-clause-history
 returns-clause-history g c =
@@ -130,7 +131,7 @@ returns-clause-history g c =
     let idle = stands_idle m.0.part.seat phase c.requires.phase fits.stands in
     let takes = c.in-Some.ensures.takes in
     let d = register_done K o s p m n phase fits c.args.locale c.in-Some.number c.requires.phase takes c.requires.locale in
-    done_listed K o s p m n _ _ _ _ d
+    subst (λ f. ListsItems K o s p (Changed K o s p m n takes.0) (registered_items m.0.number f)) (sym c.now_registered.ensures) (done_listed K o s p m n _ _ _ _ d)
 
 pub returns-clause-cause : goal.returns-clause-cause
 returns-clause-cause g c =
@@ -145,7 +146,7 @@ returns-clause-cause g c =
     let idle = stands_idle m.0.part.seat phase c.requires.phase fits.stands in
     let takes = c.in-Some.ensures.takes in
     let d = register_done K o s p m n phase fits c.args.locale c.in-Some.number c.requires.phase takes c.requires.locale in
-    done_read K o s p m n _ _ _ _ d _ takes.1
+    subst (λ f. ReadsWords K o s p (Changed K o s p m n takes.0) (RegisterCause p.shape c.args.locale f)) (sym c.now_registered.ensures) (done_read K o s p m n _ _ _ _ d _ takes.1)
 
 pub returns-clause-grows : goal.returns-clause-grows
 returns-clause-grows g c =

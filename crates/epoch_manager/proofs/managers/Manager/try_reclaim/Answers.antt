@@ -16,8 +16,8 @@ reclaim_seat-requires-clause-below g c =
     let m = me_of c.args.pass.now.pass.seat in
     let phase = c.args.pass.now.phase in
     let fits = c.args.pass.now.fits p (ap (λ x. x.plan) c.requires.opening) in
-    let is = c.in-Registered.is in
-    let t = c.in-Registered.token in
+    let is = c.registered-token.ensures in
+    let t = c.registered-token.result in
     fits.below
 
 pub reclaim_seat-requires-clause-registered : goal.reclaim_seat-requires-clause-registered
@@ -29,8 +29,8 @@ reclaim_seat-requires-clause-registered g c =
     let m = me_of c.args.pass.now.pass.seat in
     let phase = c.args.pass.now.phase in
     let fits = c.args.pass.now.fits p (ap (λ x. x.plan) c.requires.opening) in
-    let is = c.in-Registered.is in
-    let t = c.in-Registered.token in
+    let is = c.registered-token.ensures in
+    let t = c.registered-token.result in
     (stands_registered m.0.part.seat phase t is fits.stands).0
 
 pub reclaim_seat-requires-clause-locale : goal.reclaim_seat-requires-clause-locale
@@ -42,8 +42,8 @@ reclaim_seat-requires-clause-locale g c =
     let m = me_of c.args.pass.now.pass.seat in
     let phase = c.args.pass.now.phase in
     let fits = c.args.pass.now.fits p (ap (λ x. x.plan) c.requires.opening) in
-    let is = c.in-Registered.is in
-    let t = c.in-Registered.token in
+    let is = c.registered-token.ensures in
+    let t = c.registered-token.result in
     (sym (ap (λ u. u.locale) (stands_registered m.0.part.seat phase t is fits.stands).1), (inside_so K o s p phase t m.0 fits (inl is)).locale)
 
 pub reclaim_seat-requires-clause-hand : goal.reclaim_seat-requires-clause-hand
@@ -55,8 +55,8 @@ reclaim_seat-requires-clause-hand g c =
     let m = me_of c.args.pass.now.pass.seat in
     let phase = c.args.pass.now.phase in
     let fits = c.args.pass.now.fits p (ap (λ x. x.plan) c.requires.opening) in
-    let is = c.in-Registered.is in
-    let t = c.in-Registered.token in
+    let is = c.registered-token.ensures in
+    let t = c.registered-token.result in
     let done = (settled_so m.0.part.seat m.0.part.won fits.kept.done).0 in
     done.hand
 
@@ -69,8 +69,8 @@ reclaim_seat-requires-clause-tail g c =
     let m = me_of c.args.pass.now.pass.seat in
     let phase = c.args.pass.now.phase in
     let fits = c.args.pass.now.fits p (ap (λ x. x.plan) c.requires.opening) in
-    let is = c.in-Registered.is in
-    let t = c.in-Registered.token in
+    let is = c.registered-token.ensures in
+    let t = c.registered-token.result in
     let done = (settled_so m.0.part.seat m.0.part.won fits.kept.done).0 in
     done.tail
 
@@ -83,8 +83,8 @@ reclaim_seat-requires-clause-allowed g c =
     let m = me_of c.args.pass.now.pass.seat in
     let phase = c.args.pass.now.phase in
     let fits = c.args.pass.now.fits p (ap (λ x. x.plan) c.requires.opening) in
-    let is = c.in-Registered.is in
-    let t = c.in-Registered.token in
+    let is = c.registered-token.ensures in
+    let t = c.registered-token.result in
     subst (λ l. K.may_reclaim m.0.part.client l) (places_of m.0.part.facts m.0.part.seat.owned) c.requires.allowed
 
 pub invariant_of-pass : goal.invariant_of-pass
@@ -96,8 +96,8 @@ invariant_of-pass g c =
     let m = me_of c.args.pass.now.pass.seat in
     let phase = c.args.pass.now.phase in
     let fits = c.args.pass.now.fits p (ap (λ x. x.plan) c.requires.opening) in
-    let is = c.in-Registered.is in
-    let t = c.in-Registered.token in
+    let is = c.registered-token.ensures in
+    let t = c.registered-token.result in
     let n = me_of c.reclaim_seat.new.seat in
     let result = c.reclaim_seat.result in
     let f = finished K o s p m n phase fits t is result c.reclaim_seat.ensures.reclaims in
@@ -113,8 +113,8 @@ returns-clause-owned g c =
     let m = me_of c.args.pass.now.pass.seat in
     let phase = c.args.pass.now.phase in
     let fits = c.args.pass.now.fits p (ap (λ x. x.plan) c.requires.opening) in
-    let is = c.in-Registered.is in
-    let t = c.in-Registered.token in
+    let is = c.registered-token.ensures in
+    let t = c.registered-token.result in
     let n = me_of c.reclaim_seat.new.seat in
     let result = c.reclaim_seat.result in
     let f = finished K o s p m n phase fits t is result c.reclaim_seat.ensures.reclaims in
@@ -129,8 +129,8 @@ returns-clause-held g c =
     let m = me_of c.args.pass.now.pass.seat in
     let phase = c.args.pass.now.phase in
     let fits = c.args.pass.now.fits p (ap (λ x. x.plan) c.requires.opening) in
-    let is = c.in-Registered.is in
-    let t = c.in-Registered.token in
+    let is = c.registered-token.ensures in
+    let t = c.registered-token.result in
     let n = me_of c.reclaim_seat.new.seat in
     let result = c.reclaim_seat.result in
     let f = finished K o s p m n phase fits t is result c.reclaim_seat.ensures.reclaims in
@@ -145,8 +145,8 @@ returns-clause-history g c =
     let m = me_of c.args.pass.now.pass.seat in
     let phase = c.args.pass.now.phase in
     let fits = c.args.pass.now.fits p (ap (λ x. x.plan) c.requires.opening) in
-    let is = c.in-Registered.is in
-    let t = c.in-Registered.token in
+    let is = c.registered-token.ensures in
+    let t = c.registered-token.result in
     let n = me_of c.reclaim_seat.new.seat in
     let result = c.reclaim_seat.result in
     let f = finished K o s p m n phase fits t is result c.reclaim_seat.ensures.reclaims in
@@ -161,8 +161,8 @@ returns-clause-grows g c =
     let m = me_of c.args.pass.now.pass.seat in
     let phase = c.args.pass.now.phase in
     let fits = c.args.pass.now.fits p (ap (λ x. x.plan) c.requires.opening) in
-    let is = c.in-Registered.is in
-    let t = c.in-Registered.token in
+    let is = c.registered-token.ensures in
+    let t = c.registered-token.result in
     let n = me_of c.reclaim_seat.new.seat in
     let result = c.reclaim_seat.result in
     let f = finished K o s p m n phase fits t is result c.reclaim_seat.ensures.reclaims in
@@ -177,8 +177,8 @@ returns-clause-read g c =
     let m = me_of c.args.pass.now.pass.seat in
     let phase = c.args.pass.now.phase in
     let fits = c.args.pass.now.fits p (ap (λ x. x.plan) c.requires.opening) in
-    let is = c.in-Registered.is in
-    let t = c.in-Registered.token in
+    let is = c.registered-token.ensures in
+    let t = c.registered-token.result in
     let n = me_of c.reclaim_seat.new.seat in
     let result = c.reclaim_seat.result in
     let f = finished K o s p m n phase fits t is result c.reclaim_seat.ensures.reclaims in

@@ -6,6 +6,7 @@ use Rattle.pass_table.specs.Passes.{me_of}
 use Rattle.epoch_manager.specs.Managers.{pointers, plan_of, ListsItems}
 use Rattle.epoch_manager.proofs.PassClauses.{stands_pinned, inside_so, may_unpin, unpin_done, done_listed, done_begins, done_fits, done_looked, same_pinned, Changed}
 use Rattle.epoch_manager.specs.HeldNumbers.{number_of}
+use Rattle.epoch_manager.proofs.PhaseFits.{fits_as}
 use Rattle.epoch_manager.proofs.managers.Manager.unpin.Goals as goal
 
 pub unpin-requires-clause-token : goal.unpin-requires-clause-token
@@ -17,8 +18,8 @@ unpin-requires-clause-token g c =
     let m = me_of c.args.pass.now.pass.seat in
     let phase = c.args.pass.now.phase in
     let fits = c.args.pass.now.fits p (ap (λ x. x.plan) c.requires.opening) in
-    let is = c.in-Pinned.is in
-    let t = c.in-Pinned.token in
+    let is = c.pinned-token.ensures in
+    let t = c.pinned-token.result in
     (sym (stands_pinned m.0.part.seat phase t is fits.stands).1, subst (λ h. IsToken h.locales h.tokens t) c.args.self.now.words.planned (inside_so K o s p phase t m.0 fits (inr is)))
 
 pub unpin-requires-clause-may : goal.unpin-requires-clause-may
@@ -30,8 +31,8 @@ unpin-requires-clause-may g c =
     let m = me_of c.args.pass.now.pass.seat in
     let phase = c.args.pass.now.phase in
     let fits = c.args.pass.now.fits p (ap (λ x. x.plan) c.requires.opening) in
-    let is = c.in-Pinned.is in
-    let t = c.in-Pinned.token in
+    let is = c.pinned-token.ensures in
+    let t = c.pinned-token.result in
     may_unpin K o s p m phase t fits is
 
 pub invariant_of-pass : goal.invariant_of-pass
@@ -43,8 +44,8 @@ invariant_of-pass g c =
     let m = me_of c.args.pass.now.pass.seat in
     let phase = c.args.pass.now.phase in
     let fits = c.args.pass.now.fits p (ap (λ x. x.plan) c.requires.opening) in
-    let is = c.in-Pinned.is in
-    let t = c.in-Pinned.token in
+    let is = c.pinned-token.ensures in
+    let t = c.pinned-token.result in
     let n = me_of c.unpin.new.seat in
     let d = unpin_done K o s p m n phase fits t is c.unpin.ensures.makes in
     (d.rests, (d.carried ∙ c.args.pass.now.pass.empty_handed, tt))
@@ -58,11 +59,11 @@ invariant_of-pass-2 g c =
     let m = me_of c.args.pass.now.pass.seat in
     let phase = c.args.pass.now.phase in
     let fits = c.args.pass.now.fits p (ap (λ x. x.plan) c.requires.opening) in
-    let is = c.in-Pinned.is in
-    let t = c.in-Pinned.token in
+    let is = c.pinned-token.ensures in
+    let t = c.pinned-token.result in
     let n = me_of c.unpin.new.seat in
     let d = unpin_done K o s p m n phase fits t is c.unpin.ensures.makes in
-    record { fits = done_fits K o s p m n _ _ _ _ d (ap (λ x. x.plan) c.unpin.ensures.seat); holds = c.new-pass.ensures ∙ ap (λ x. map number_of x.seat.held) (sym d.goes.1) }
+    record { fits = fits_as n.0 _ _ (c.now_unpinned.ensures t is) (done_fits K o s p m n _ _ _ _ d (ap (λ x. x.plan) c.unpin.ensures.seat)); holds = c.clear.ensures ∙ ap (λ x. map number_of x.seat.held) (sym d.goes.1) }
 
 pub returns-clause-owned : goal.returns-clause-owned
 returns-clause-owned g c =
@@ -73,8 +74,8 @@ returns-clause-owned g c =
     let m = me_of c.args.pass.now.pass.seat in
     let phase = c.args.pass.now.phase in
     let fits = c.args.pass.now.fits p (ap (λ x. x.plan) c.requires.opening) in
-    let is = c.in-Pinned.is in
-    let t = c.in-Pinned.token in
+    let is = c.pinned-token.ensures in
+    let t = c.pinned-token.result in
     let n = me_of c.unpin.new.seat in
     let d = unpin_done K o s p m n phase fits t is c.unpin.ensures.makes in
     ap (λ x. pointers x.facts x.seat.owned) d.goes.1
@@ -88,8 +89,8 @@ returns-clause-held g c =
     let m = me_of c.args.pass.now.pass.seat in
     let phase = c.args.pass.now.phase in
     let fits = c.args.pass.now.fits p (ap (λ x. x.plan) c.requires.opening) in
-    let is = c.in-Pinned.is in
-    let t = c.in-Pinned.token in
+    let is = c.pinned-token.ensures in
+    let t = c.pinned-token.result in
     let n = me_of c.unpin.new.seat in
     let d = unpin_done K o s p m n phase fits t is c.unpin.ensures.makes in
     ap (λ x. pointers x.facts x.seat.held) d.goes.1
@@ -103,8 +104,8 @@ returns-clause-knows g c =
     let m = me_of c.args.pass.now.pass.seat in
     let phase = c.args.pass.now.phase in
     let fits = c.args.pass.now.fits p (ap (λ x. x.plan) c.requires.opening) in
-    let is = c.in-Pinned.is in
-    let t = c.in-Pinned.token in
+    let is = c.pinned-token.ensures in
+    let t = c.pinned-token.result in
     let n = me_of c.unpin.new.seat in
     let d = unpin_done K o s p m n phase fits t is c.unpin.ensures.makes in
     ap (λ x. x.client) d.goes.1
@@ -118,8 +119,8 @@ returns-clause-grows g c =
     let m = me_of c.args.pass.now.pass.seat in
     let phase = c.args.pass.now.phase in
     let fits = c.args.pass.now.fits p (ap (λ x. x.plan) c.requires.opening) in
-    let is = c.in-Pinned.is in
-    let t = c.in-Pinned.token in
+    let is = c.pinned-token.ensures in
+    let t = c.pinned-token.result in
     let n = me_of c.unpin.new.seat in
     let d = unpin_done K o s p m n phase fits t is c.unpin.ensures.makes in
     done_begins K o s p m n _ _ _ _ d
@@ -133,8 +134,8 @@ returns-clause-looked g c =
     let m = me_of c.args.pass.now.pass.seat in
     let phase = c.args.pass.now.phase in
     let fits = c.args.pass.now.fits p (ap (λ x. x.plan) c.requires.opening) in
-    let is = c.in-Pinned.is in
-    let t = c.in-Pinned.token in
+    let is = c.pinned-token.ensures in
+    let t = c.pinned-token.result in
     let n = me_of c.unpin.new.seat in
     let d = unpin_done K o s p m n phase fits t is c.unpin.ensures.makes in
     done_looked K o s p m n _ _ _ _ d refl
@@ -148,8 +149,8 @@ returns-clause-history g c =
     let m = me_of c.args.pass.now.pass.seat in
     let phase = c.args.pass.now.phase in
     let fits = c.args.pass.now.fits p (ap (λ x. x.plan) c.requires.opening) in
-    let is = c.in-Pinned.is in
-    let t = c.in-Pinned.token in
+    let is = c.pinned-token.ensures in
+    let t = c.pinned-token.result in
     let n = me_of c.unpin.new.seat in
     let d = unpin_done K o s p m n phase fits t is c.unpin.ensures.makes in
     λ token so. subst (λ u. ListsItems K o s p (Changed K o s p m n []) (event m.0.number (Unpinned u))) (same_pinned phase t token is so) (done_listed K o s p m n _ _ _ _ d)
