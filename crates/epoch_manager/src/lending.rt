@@ -45,6 +45,7 @@ impl<C: Client> Manager<C> {
     }
 
     // Tries to take an object of the locale. Where its stack and its chain are empty, it looks at each header.
+    #[inline(always)]
     fn try_locale<R: Wait>(&self, rt: &R, seat: &mut TableSeat<C>, locale: u8) -> Tried
         requires seat { IsSeatOf self.now.words.table seat.old }
         requires locale { locale < (shape_of self.now).locales }

@@ -224,6 +224,7 @@ impl<C: Client> Manager<C> {
     }
 
     // Takes the locale's chain of objects that came home: one object stays in the hand, the others go onto the stack.
+    #[inline(never)]
     pub(crate) fn take_home<R: Wait>(&self, rt: &R, seat: &mut TableSeat<C>, locale: u8) -> Get
         requires seat { IsSeatOf self.now.words.table seat.old }
         requires below { (view_of seat.old).number < callers_of self.now }
