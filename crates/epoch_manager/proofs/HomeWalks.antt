@@ -235,6 +235,14 @@ module _ {C View' Call Reply State' : Type 0} (K : ClientTerms C View' Call Repl
       let at : place_in word ≡ place_of q = named word q is same in
       (⊎_elim (λ e. absurd (some e)) (λ h. subst (IsPlace plan.shape) at h) was.leads, sym (ap (λ p. p.locale) at) ∙ was.local some)
 
+pub chain_named : (shape : Shape) (word : ℕ) → shape.locales ≤ 16 → IsChainWord shape word → (word ≡ 0) ⊎ NamesPointer word
+unfolding place_in index_in
+chain_named shape word most leads =
+    ⊎_elim
+    (λ e. inl e)
+    (λ is. let l = is.locale in let i = is.some_object in inr (i, omega arith))
+    leads
+
 pub ends_chain : (shape : Shape) (word : ℕ) → shape.locales ≤ 16 → IsChainWord shape word → (¬ NamesPointer word → ⊥) ⊎ (word ≡ 0)
 unfolding place_in index_in
 ends_chain shape word most leads =

@@ -1,6 +1,5 @@
 //! The hold of a link.
-ghost use Rattle.std.specs.Prelude.{◌≡◌, ◌⊎◌, ◌↔◌, ◌<◌, true, length, IfSome, IsNone, Contains};
-ghost use Rattle.pgas_base.specs.Pointers.{IsPointer, NamesPointer, word_of};
+ghost use Rattle.std.specs.Prelude.{◌≡◌, ◌<◌, true, length, IfSome, Contains};
 ghost use Rattle.epoch_laws.specs.declared.tokens.Token.{Token};
 ghost use Rattle.epoch_laws.specs.Places.{place_of};
 ghost use Rattle.epoch_laws.specs.States.{IsPlace};
@@ -11,6 +10,7 @@ ghost use Rattle.epoch_manager.specs.Managers.{plan_of, opening_of, shape_of, pa
 ghost use Rattle.epoch_manager.specs.SpotCalls.{IsReached};
 
 use crate::held::HeldList;
+use crate::links::linked;
 use crate::managers::{Manager, Pass};
 use crate::phases::Phase;
 use epoch_table::Client;
@@ -22,20 +22,6 @@ fn object_number(ptr: &Ptr) -> u32
     ensures { result ≡ number_of (place_of ptr.now) }
 {
     (ptr.word() / (1 << 32)) as u32
-}
-
-// What a link names: its word is 0 or a pointer's, and one comparison tells.
-#[inline]
-fn linked(word: u64) -> Option<Ptr>
-    requires link { (word ≡ 0) ⊎ NamesPointer word }
-    ensures some { IfSome result (λ pointer. word_of pointer ≡ word) }
-    ensures pointer { IfSome result (λ pointer. IsPointer pointer) }
-    ensures none { IsNone result ↔ ¬ NamesPointer word }
-{
-    if word == 0 {
-        return None;
-    }
-    Some(Ptr::named(word))
 }
 
 // The object that was found, if any, is held once.

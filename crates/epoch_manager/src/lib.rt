@@ -16,6 +16,7 @@ mod held;
 mod holds;
 mod homes;
 mod lending;
+mod links;
 mod managers;
 mod notes;
 mod objects;

@@ -14,6 +14,7 @@ ghost use Rattle.epoch_manager.specs.Releasing.{IsWalking, IsReleasing, HasFreed
 
 use crate::faults::NotNow;
 use crate::homes::Homes;
+use crate::links::linked;
 use crate::managers::Manager;
 use crate::reclaims::Advanced;
 use epoch_table::{Client, TableSeat};
@@ -118,7 +119,7 @@ impl<C: Client> Manager<C> {
         let mut word = self.words.collect(seat, locale, epoch);
         let mut count = freed;
         for _ in 0..self.many_objects() + 1 {
-            let Some(ptr) = Ptr::of_word(word) else {
+            let Some(ptr) = linked(word) else {
                 return count;
             };
             word = self.release_next(seat, homes, ptr);

@@ -16,6 +16,7 @@ ghost use Rattle.epoch_manager.specs.TakeSeats.{IsEmptyHanded, IsKnowing, HasOne
 
 use crate::gets::Get;
 use crate::homes::PENDING;
+use crate::links::linked;
 use crate::managers::Manager;
 use epoch_table::{Client, TableSeat};
 use pass_table::pause;
@@ -165,7 +166,7 @@ impl<C: Client> Manager<C> {
         let mut tail = top;
         let mut word = self.walk(rt, seat, top);
         for _ in rt.forever() {
-            let Some(next) = Ptr::of_word(word) else {
+            let Some(next) = linked(word) else {
                 return tail;
             };
             word = self.walk(rt, seat, next);

@@ -3,7 +3,7 @@ use Rattle.pass_table.specs.Passes.{me_of}
 use Rattle.epoch_manager.specs.HomeChains.{chain_of}
 use Rattle.epoch_manager.specs.Managers.{plan_of}
 use Rattle.epoch_manager.specs.Releasing.{ReleasesList}
-use Rattle.epoch_manager.proofs.HomeWalks.{ends_chain}
+use Rattle.epoch_manager.proofs.HomeWalks.{ends_chain, chain_named}
 use Rattle.epoch_manager.proofs.ReleaseLists.{most_objects, may_collect, collects_so, walking_on, below_on, inside_on, chain_on, low_now, one_released}
 use Rattle.epoch_manager.proofs.managers.Manager.release_list.Goals as goal
 
@@ -37,6 +37,12 @@ loop-init g c =
     let old = chain_of c.args.homes.now.chains in
     let r = c.requires in
     record { seat = c.collect-word.ensures.seat; steps = omega arith; releases = collects_so K o s p m e l f old r.releasing r.locale r.below r.freed c.collect-word.result (me_of c.collect-word.new.seat) c.collect-word.ensures.makes }
+
+pub linked-requires : goal.linked-requires
+linked-requires g c =
+    let p = plan_of c.args.self.now in
+    let most : p.shape.locales ≤ 16 = subst (λ h. h.locales ≤ 16) (sym c.args.self.now.words.planned) c.args.self.now.words.shaped.0.1 in
+    record { link = chain_named p.shape c.loop.word most c.loop.invariant.releases.leads }
 
 pub returns-in_default-clause-seat : goal.returns-in_default-clause-seat
 returns-in_default-clause-seat g c =
