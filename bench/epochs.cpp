@@ -1,9 +1,10 @@
 // Peers of the epoch manager, each under the loop of `bench_objects`, on one cell that all threads share: its own atomic
 // steps, on the same words, and liburcu's memb flavour.
 //
-//   epochs PEER THREADS TIMES
+//   epochs PEER OBJECTS WIDTH THREADS TIMES
 //
-// Prints the nanoseconds of a turn of the loop in one thread, from before the threads start until all have ended.
+// Each thread has a locale of so many objects, whose rows have so many words; a manager's shape isn't known before it is opened
+// either. Prints the nanoseconds of a turn of the loop in one thread, from before the threads start until all have ended.
 #include <array>
 #include <atomic>
 #include <chrono>
@@ -18,14 +19,10 @@
 #include <urcu/urcu-memb.h>
 #include <vector>
 
-constexpr std::size_t LINE = 64;
-constexpr std::uint64_t OBJECTS = 1024; // of each locale
+constexpr std::uint64_t LINE = 8; // the words of a cache line
+constexpr std::uint64_t TOKENS = 2; // of each locale
 constexpr std::uint64_t PER_RECLAIM = 64;
 constexpr std::uint64_t MOST_GATHERED = 32; // in a chain
-
-struct alignas(2 * LINE) Word : std::atomic<std::uint64_t> {
-    Word() : std::atomic<std::uint64_t>(0) {}
-};
 
 // Keeps the compiler from leaving a load out.
 inline void use(std::uint64_t value) { asm volatile("" : : "r"(value)); }
@@ -41,148 +38,169 @@ inline std::uint64_t locale_of(std::uint64_t pointer) { return pointer >> 56; }
 inline std::uint64_t index_of(std::uint64_t pointer) { return pointer >> 32 & 0xffffff; }
 inline std::uint64_t count_of(std::uint64_t pointer) { return pointer & 0xffffffff; }
 
+// How much there is, as a manager knows it: only when it is opened.
+struct Sizes {
+    std::uint32_t locales;
+    std::uint64_t objects; // of each locale
+    std::uint64_t width;   // words of a row
+};
+
 // The atomic steps of a manager's calls, where no caller stops in their midst: a token is one thread's, and has a locale of its own.
+// All words stand in one table, as a manager's do: the two global ones, the locales', the tokens, the objects, and the cell, each word
+// that one caller writes often on a line of its own.
 class Steps {
-    struct alignas(LINE) Object {
-        std::atomic<std::uint64_t> header{FREE}, next{0};
-        std::array<std::atomic<std::uint64_t>, 2> row{};
+  public:
+    // A thread's own numbers: its locale, and where its token stands.
+    struct Caller {
+        std::uint32_t locale;
+        std::uint64_t token, deferrals = 0;
     };
-    struct alignas(2 * LINE) Locale {
-        Word epoch, election, token, free, home;
-        std::array<Word, 4> lists;
-        std::array<Object, OBJECTS + 1> objects;
-        std::uint64_t deferrals = 0;
-    };
+
+  private:
+    using Word = std::atomic<std::uint64_t>;
+    static constexpr std::uint64_t EPOCH = 0, ELECTION = LINE, LOCALES = 2 * LINE, LOCALE = 5 * LINE;
     // Released objects of one home locale, on their way there.
     struct Chain {
         std::uint64_t top = 0, tail = 0, many = 0;
     };
-    std::uint32_t threads;
-    Word epoch, election, cell;
-    std::unique_ptr<Locale[]> locales;
+    Sizes sizes;
+    std::uint64_t tokens, objects, cell, object_words, locale_words;
+    std::unique_ptr<Word[]> words;
 
-    Object &object(std::uint64_t pointer) { return locales[locale_of(pointer)].objects[index_of(pointer)]; }
+    Word &epoch(std::uint64_t locale) { return words[LOCALES + locale * LOCALE]; }
+    Word &election(std::uint64_t locale) { return words[LOCALES + locale * LOCALE + LINE]; }
+    Word &list(std::uint64_t locale, std::uint64_t number) { return words[LOCALES + locale * LOCALE + 2 * LINE + number]; }
+    Word &free(std::uint64_t locale) { return words[LOCALES + locale * LOCALE + 3 * LINE]; }
+    Word &home(std::uint64_t locale) { return words[LOCALES + locale * LOCALE + 4 * LINE]; }
+    // The words of an object: its header, its next word and its row.
+    Word *object(std::uint64_t locale, std::uint64_t index) {
+        return &words[objects + locale * locale_words + (index - 1) * object_words];
+    }
+    Word *object(std::uint64_t pointer) { return object(locale_of(pointer), index_of(pointer)); }
+    Word &header(std::uint64_t pointer) { return object(pointer)[0]; }
+    Word &next(std::uint64_t pointer) { return object(pointer)[1]; }
+    Word &row(std::uint64_t pointer, std::uint64_t at) { return object(pointer)[2 + at]; }
 
     std::uint64_t next_of(std::uint64_t pointer) {
         for (;;) {
-            const std::uint64_t next = object(pointer).next.load();
-            if (next != PENDING) return next;
+            const std::uint64_t found = next(pointer).load();
+            if (found != PENDING) return found;
         }
     }
     static std::uint64_t raised(std::uint64_t head, std::uint64_t index) { return ((head >> 24) + 1) << 24 | index; }
 
     // Off the stack of free objects. 0 where it is empty.
-    std::uint64_t pop(Locale &own, std::uint64_t locale) {
+    std::uint64_t pop(std::uint64_t locale) {
         for (;;) {
-            std::uint64_t head = own.free.load();
+            std::uint64_t head = free(locale).load();
             const std::uint64_t index = head & 0xffffff;
             if (index == 0) return 0;
-            const std::uint64_t next = own.objects[index].next.load();
-            if (own.free.compare_exchange_strong(head, raised(head, index_of(next)))) return pointer(locale, index, 0);
+            const std::uint64_t below = object(locale, index)[1].load();
+            if (free(locale).compare_exchange_strong(head, raised(head, index_of(below)))) return pointer(locale, index, 0);
         }
     }
     // The first of those on their way home; the others go onto the stack. 0 where there are none.
-    std::uint64_t take_home(Locale &own) {
-        const std::uint64_t first = own.home.exchange(0);
+    std::uint64_t take_home(std::uint64_t locale) {
+        const std::uint64_t first = home(locale).exchange(0);
         if (first == 0) return 0;
         const std::uint64_t top = next_of(first);
         if (top == 0) return first;
         std::uint64_t tail = top;
-        for (std::uint64_t next = next_of(tail); next != 0; next = next_of(next)) tail = next;
+        for (std::uint64_t after = next_of(tail); after != 0; after = next_of(after)) tail = after;
         for (;;) {
-            std::uint64_t head = own.free.load();
-            object(tail).next.store((head & 0xffffff) == 0 ? 0 : pointer(locale_of(top), head & 0xffffff, 0));
-            if (own.free.compare_exchange_strong(head, raised(head, index_of(top)))) return first;
+            std::uint64_t head = free(locale).load();
+            next(tail).store((head & 0xffffff) == 0 ? 0 : pointer(locale, head & 0xffffff, 0));
+            if (free(locale).compare_exchange_strong(head, raised(head, index_of(top)))) return first;
         }
     }
     std::uint64_t take(std::uint32_t locale) {
-        Locale &own = locales[locale];
-        std::uint64_t taken = pop(own, locale);
-        if (taken == 0) taken = take_home(own);
+        std::uint64_t taken = pop(locale);
+        if (taken == 0) taken = take_home(locale);
         if (taken == 0) return 0;
-        std::atomic<std::uint64_t> &word = object(taken).header;
-        std::uint64_t header = word.load();
-        word.compare_exchange_strong(header, (header & ~3ull) | OWN);
-        return pointer(locale, index_of(taken), header >> 2);
+        Word &word = header(taken);
+        std::uint64_t found = word.load();
+        word.compare_exchange_strong(found, (found & ~3ull) | OWN);
+        return pointer(locale, index_of(taken), found >> 2);
     }
     void hand_home(Chain &chain) {
         if (chain.many == 0) return;
-        object(chain.tail).next.store(locales[locale_of(chain.top)].home.exchange(chain.top));
+        next(chain.tail).store(home(locale_of(chain.top)).exchange(chain.top));
         chain = Chain{};
     }
     void release(std::uint64_t head, std::vector<Chain> &chains) {
         while (head != 0) {
-            Object &freed = object(head);
-            const std::uint64_t next = freed.next.load();
+            const std::uint64_t after = next(head).load();
             const std::uint64_t count = count_of(head) + 1;
-            freed.header.store(count << 2 | FREE);
+            header(head).store(count << 2 | FREE);
             Chain &chain = chains[locale_of(head)];
-            freed.next.store(chain.many == 0 ? PENDING : chain.top);
+            next(head).store(chain.many == 0 ? PENDING : chain.top);
             chain.top = pointer(locale_of(head), index_of(head), count);
             if (chain.many == 0) chain.tail = chain.top;
             if (++chain.many == MOST_GATHERED) hand_home(chain);
-            head = next;
+            head = after;
         }
         for (Chain &chain : chains) hand_home(chain);
     }
     void leave(std::uint32_t locale, bool global) {
-        if (global) election.store(0);
-        locales[locale].election.store(0);
+        if (global) words[ELECTION].store(0);
+        election(locale).store(0);
     }
     void reclaim(std::uint32_t locale) {
-        std::uint64_t free = 0;
-        if (!locales[locale].election.compare_exchange_strong(free, 1)) return;
-        if (!election.compare_exchange_strong(free, 1)) return leave(locale, false);
-        const std::uint64_t now = epoch.load();
-        for (std::uint32_t at = 0; at < threads; ++at) {
-            const std::uint64_t word = locales[at].token.load();
+        std::uint64_t nobody = 0;
+        if (!election(locale).compare_exchange_strong(nobody, 1)) return;
+        if (!words[ELECTION].compare_exchange_strong(nobody, 1)) return leave(locale, false);
+        const std::uint64_t now = words[EPOCH].load();
+        for (std::uint64_t at = 0; at < sizes.locales * TOKENS; ++at) {
+            const std::uint64_t word = words[tokens + at * LINE].load();
             if (word > 1 && word != now + 2) return leave(locale, true);
         }
-        epoch.store(now + 1);
-        for (std::uint32_t at = 0; at < threads; ++at) locales[at].epoch.store(now + 1);
-        std::vector<Chain> chains(threads);
-        for (std::uint32_t at = 0; at < threads; ++at) release(locales[at].lists[(now + 2) % 4].exchange(0), chains);
+        words[EPOCH].store(now + 1);
+        for (std::uint32_t at = 0; at < sizes.locales; ++at) epoch(at).store(now + 1);
+        std::vector<Chain> chains(sizes.locales);
+        for (std::uint32_t at = 0; at < sizes.locales; ++at) release(list(at, (now + 2) % 4).exchange(0), chains);
         leave(locale, true);
     }
 
   public:
-    explicit Steps(std::uint32_t threads) : threads(threads), locales(new Locale[threads]) {
-        epoch.store(1);
-        for (std::uint32_t at = 0; at < threads; ++at) {
-            Locale &locale = locales[at];
-            locale.epoch.store(1);
-            locale.token.store(1);
-            for (std::uint64_t index = 1; index < OBJECTS; ++index) locale.objects[index].next.store(pointer(at, index + 1, 0));
-            locale.free.store(1);
+    explicit Steps(Sizes sizes)
+        : sizes(sizes), tokens(LOCALES + sizes.locales * LOCALE), objects(tokens + sizes.locales * TOKENS * LINE),
+          cell(objects + sizes.locales * sizes.objects * (sizes.width + 2)), object_words(sizes.width + 2),
+          locale_words(sizes.objects * object_words), words(new Word[cell + LINE]{}) {
+        words[EPOCH].store(1);
+        for (std::uint32_t locale = 0; locale < sizes.locales; ++locale) {
+            epoch(locale).store(1);
+            for (std::uint64_t index = 1; index < sizes.objects; ++index) object(locale, index)[1].store(pointer(locale, index + 1, 0));
+            free(locale).store(1);
         }
         const std::uint64_t first = take(0);
-        object(first).header.store(count_of(first) << 2 | SHOWN);
-        cell.store(first);
+        header(first).store(count_of(first) << 2 | SHOWN);
+        words[cell].store(first);
     }
-    void enter(std::uint32_t) {}
-    void exit(std::uint32_t) {}
-    void read(std::uint32_t thread) {
-        Locale &own = locales[thread];
-        own.token.store(own.epoch.load() + 2);
-        use(object(cell.load()).row[0].load());
-        own.token.store(1);
+    Caller enter(std::uint32_t thread) {
+        const Caller own{thread, tokens + thread * TOKENS * LINE};
+        words[own.token].store(1);
+        return own;
     }
-    void replace(std::uint32_t thread, std::uint64_t number) {
-        Locale &own = locales[thread];
-        std::uint64_t taken = take(thread);
+    void exit(Caller &own) { words[own.token].store(0); }
+    void read(Caller &own) {
+        words[own.token].store(epoch(own.locale).load() + 2);
+        use(row(words[cell].load(), 0).load());
+        words[own.token].store(1);
+    }
+    void replace(Caller &own, std::uint64_t number) {
+        std::uint64_t taken = take(own.locale);
         while (taken == 0) {
-            reclaim(thread);
-            taken = take(thread);
+            reclaim(own.locale);
+            taken = take(own.locale);
         }
-        Object &shown = object(taken);
-        for (auto &word : shown.row) word.store(number);
-        own.token.store(own.epoch.load() + 2);
-        shown.header.store(count_of(taken) << 2 | SHOWN);
-        const std::uint64_t old = cell.exchange(taken);
-        Word &list = own.lists[own.epoch.load() % 4];
-        object(old).next.store(list.exchange(old));
-        own.token.store(1);
-        if (++own.deferrals % PER_RECLAIM == 0) reclaim(thread);
+        for (std::uint64_t at = 0; at < sizes.width; ++at) row(taken, at).store(number);
+        words[own.token].store(epoch(own.locale).load() + 2);
+        header(taken).store(count_of(taken) << 2 | SHOWN);
+        const std::uint64_t old = words[cell].exchange(taken);
+        Word &deferred = list(own.locale, epoch(own.locale).load() % 4);
+        next(old).store(deferred.exchange(old));
+        words[own.token].store(1);
+        if (++own.deferrals % PER_RECLAIM == 0) reclaim(own.locale);
     }
 };
 
@@ -195,10 +213,14 @@ class Urcu {
     Row *cell = &row;
 
   public:
-    explicit Urcu(std::uint32_t) {}
-    void enter(std::uint32_t) { urcu_memb_register_thread(); }
-    void exit(std::uint32_t) { urcu_memb_unregister_thread(); }
-    void read(std::uint32_t) {
+    struct Caller {};
+    explicit Urcu(Sizes) {}
+    Caller enter(std::uint32_t) {
+        urcu_memb_register_thread();
+        return Caller{};
+    }
+    void exit(Caller &) { urcu_memb_unregister_thread(); }
+    void read(Caller &) {
         urcu_memb_read_lock();
         use(rcu_dereference(cell)->words[0]);
         urcu_memb_read_unlock();
@@ -216,34 +238,36 @@ template <class Turn> double time_turns(std::uint32_t threads, std::uint64_t tim
     return taken.count() / static_cast<double>(times);
 }
 
-template <class Peer> double time_reads(std::uint32_t threads, std::uint64_t times) {
-    const auto peer = std::make_unique<Peer>(threads);
-    return time_turns(threads, times, [&](std::uint32_t thread, std::uint64_t many) {
-        peer->enter(thread);
-        for (std::uint64_t number = 0; number < many; ++number) peer->read(thread);
-        peer->exit(thread);
+template <class Peer> double time_reads(Sizes sizes, std::uint64_t times) {
+    const auto peer = std::make_unique<Peer>(sizes);
+    return time_turns(sizes.locales, times, [&](std::uint32_t thread, std::uint64_t many) {
+        auto own = peer->enter(thread);
+        for (std::uint64_t number = 0; number < many; ++number) peer->read(own);
+        peer->exit(own);
     });
 }
 
-double time_replaces(std::uint32_t threads, std::uint64_t times) {
-    const auto peer = std::make_unique<Steps>(threads);
-    return time_turns(threads, times, [&](std::uint32_t thread, std::uint64_t many) {
-        for (std::uint64_t number = 0; number < many; ++number) peer->replace(thread, number);
+double time_replaces(Sizes sizes, std::uint64_t times) {
+    const auto peer = std::make_unique<Steps>(sizes);
+    return time_turns(sizes.locales, times, [&](std::uint32_t thread, std::uint64_t many) {
+        auto own = peer->enter(thread);
+        for (std::uint64_t number = 0; number < many; ++number) peer->replace(own, number);
+        peer->exit(own);
     });
 }
 
 int main(int argc, char **argv) {
-    const std::map<std::string, std::function<double(std::uint32_t, std::uint64_t)>> peers = {
+    const std::map<std::string, std::function<double(Sizes, std::uint64_t)>> peers = {
         {"read-steps", time_reads<Steps>},
         {"replace-steps", time_replaces},
         {"read-urcu", time_reads<Urcu>},
     };
-    const auto peer = peers.find(argc == 4 ? argv[1] : "");
+    const auto peer = peers.find(argc == 6 ? argv[1] : "");
     if (peer == peers.end()) {
-        std::fprintf(stderr, "epochs PEER THREADS TIMES\n");
+        std::fprintf(stderr, "epochs PEER OBJECTS WIDTH THREADS TIMES\n");
         return 2;
     }
-    const auto threads = static_cast<std::uint32_t>(std::strtoul(argv[2], nullptr, 10));
-    const std::uint64_t times = std::strtoull(argv[3], nullptr, 10);
-    std::printf("%.1f\n", peer->second(threads, times));
+    const auto number = [&](int at) { return std::strtoull(argv[at], nullptr, 10); };
+    const Sizes sizes{static_cast<std::uint32_t>(number(4)), number(2), number(3)};
+    std::printf("%.1f\n", peer->second(sizes, number(5)));
 }
