@@ -1,5 +1,5 @@
 -- What a pass knows between two calls.
-use Rattle.std.specs.Prelude.{◌≡◌, ◌==◌, ◌<◌, ◌+◌, ◌&&◌, Bool, true, false, not, ltb, List, [], ◌∷◌, is_some, is_none}
+use Rattle.std.specs.Prelude.{◌≡◌, ◌==◌, ◌<◌, ◌+◌, ◌&&◌, ℕ, Bool, true, false, not, ltb, List, [], ◌∷◌, is_some, is_none}
 use Rattle.pgas_base.specs.declared.shapes.Shape.{Shape}
 use Rattle.epoch_laws.specs.declared.tokens.Token.{Token}
 use Rattle.epoch_laws.specs.Places.{Place, same_token}
@@ -10,6 +10,7 @@ use Rattle.epoch_table.specs.declared.events.Happens.{Happens}
 use Rattle.epoch_table.specs.declared.parts.Plan.{Plan}
 use Rattle.epoch_table.specs.declared.parts.Part.{Part}
 use Rattle.epoch_table.specs.Facts.{Facts, count_of}
+use Rattle.epoch_table.specs.Layout.{token_place}
 use Rattle.epoch_manager.specs.declared.phases.Phase.{Phase}
 use Rattle.epoch_manager.specs.declared.phases.Phase.TheVariants.{Idle, Registered, Pinned}
 
@@ -43,6 +44,12 @@ abbrev pub is_inside : Shape → Phase → Bool
 is_inside shape Idle = true
 is_inside shape (Registered token) = is_token shape token
 is_inside shape (Pinned token) = is_token shape token
+
+-- the word of its token stands there
+abbrev pub is_placed : Shape → Phase → ℕ → Bool
+is_placed shape Idle at = true
+is_placed shape (Registered token) at = at == token_place shape token
+is_placed shape (Pinned token) at = at == token_place shape token
 
 -- no object is in the hand, on its way home or walked over, and no won exchange of a stack's head waits for its take
 abbrev pub is_done : Seat → Bool → Bool

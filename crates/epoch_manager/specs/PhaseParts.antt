@@ -1,5 +1,4 @@
 -- A caller's phase, from how its pass keeps it.
-use Rattle.std.specs.Prelude.{ℕ}
 use Rattle.epoch_laws.specs.declared.tokens.Token.{Token}
 use Rattle.epoch_manager.specs.declared.phases.Phase.{Phase}
 use Rattle.epoch_manager.specs.declared.phases.Phase.TheVariants.{Idle as IdlePhase, Registered as RegisteredPhase, Pinned as PinnedPhase}

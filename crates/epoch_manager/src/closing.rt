@@ -67,6 +67,7 @@ fn bare<C: Client>(mut passes: Vec<Pass<C>>, mut bare: Vec<TablePass<C>>) -> Vec
         let ClientPass {
             pass,
             phase: _,
+            place: _,
             held: _,
         } = pass;
         bare.push_reserved(pass);

@@ -1,8 +1,8 @@
 //! A manager as its callers share it, and their passes.
-ghost use Rattle.std.specs.Prelude.{◌≡◌, ◌<◌, map};
+ghost use Rattle.std.specs.Prelude.{◌≡◌, ◌<◌, true, map};
 ghost use Rattle.std.specs.Option.{ForSome};
 ghost use Rattle.pass_table.specs.Passes.{plan_of, pass_view};
-ghost use Rattle.epoch_manager.specs.Fits.{PassFits};
+ghost use Rattle.epoch_manager.specs.Fits.{PassFits, is_placed};
 ghost use Rattle.epoch_manager.specs.HeldNumbers.{number_of};
 
 use crate::held::HeldList;
@@ -17,8 +17,11 @@ use std::alloc::Global;
 pub struct ClientPass<K, V, Q, R> {
     pub(crate) pass: pass_table::Pass<(), Happens<Q, R>, (), Plan<K>, Part<V>, Name>,
     pub(crate) phase: Stance,
+    // Where the word of its token stands: worked out once, so that a pin and an unpin wait for no product.
+    pub(crate) place: usize,
     pub(crate) held: HeldList,
     ghost fits: { ForSome (pass_view pass).plan (λ plan. PassFits plan (pass_view pass) phase) },
+    ghost placed: { ForSome (pass_view pass).plan (λ plan. is_placed plan.shape phase place ≡ true) },
     ghost holds: { held ≡ map number_of (pass_view pass).part.seat.held },
 }
 

@@ -71,6 +71,7 @@ fn wrap<C: Client>(
         wrapped.push(ClientPass {
             pass,
             phase: Stance::idle(),
+            place: 0,
             held: HeldList::new(),
         })?;
     }

@@ -7,6 +7,7 @@ ghost use Rattle.epoch_laws.specs.Needs.{event};
 ghost use Rattle.epoch_laws.specs.Seats.{Idle as IsIdle, Registered as IsRegistered};
 ghost use Rattle.epoch_laws.specs.Timing.{IsToken};
 ghost use Rattle.pass_table.specs.Passes.{IsSeatOf, view_of, me_of};
+ghost use Rattle.epoch_table.specs.Layout.{token_place};
 ghost use Rattle.epoch_manager.specs.Managers.{plan_of, opening_of, shape_of, callers_of, pass_opening, phase_of, caller_of, page, looked, owned_by, held_by, knows, IsSamePass, HasTheSame, change, ListsItems, ReadsWords};
 ghost use Rattle.epoch_manager.specs.Tokens.{TakesToken, RegistersAs, registered_items, RegisterCause, Pins, PinsSeat};
 
@@ -53,7 +54,9 @@ impl<C: Client> Manager<C> {
         let Some(number) = taken else {
             return Err(TokensFull {});
         };
-        pass.phase.now_registered(Token { locale, number });
+        let token = Token { locale, number };
+        pass.phase.now_registered(token);
+        pass.place = self.words.place_of_token(token);
         Ok(())
     }
 
@@ -75,16 +78,17 @@ impl<C: Client> Manager<C> {
 
     // The two steps of a pin. It gives the epoch that is announced.
     #[inline]
-    fn pin_seat(&self, seat: &mut TableSeat<C>, token: Token) -> u64
+    fn pin_seat(&self, seat: &mut TableSeat<C>, token: Token, place: usize) -> u64
         requires seat { IsSeatOf self.now.words.table seat.old }
         requires below { (view_of seat.old).number < callers_of self.now }
         requires registered { (view_of seat.old).part.seat.phase ≡ IsRegistered }
         requires token { (token ≡ (view_of seat.old).part.seat.token) × IsToken (shape_of self.now).locales (shape_of self.now).tokens token }
+        requires place { place ≡ token_place (shape_of self.now) token }
         ensures seat { IsSeatOf self.now.words.table seat.new }
         ensures pins { PinsSeat C.terms C.Object.opens C.Object.step (plan_of self.now) token (me_of seat.old) result (me_of seat.new) }
     {
         let epoch = self.words.pin_look(seat, token.locale);
-        self.words.pin_set(seat, token, epoch);
+        self.words.pin_set(seat, place, epoch);
         epoch
     }
 
@@ -101,7 +105,7 @@ impl<C: Client> Manager<C> {
         ensures grows { IsPrefix (page pass.old).seen (page pass.new).seen }
     {
         let token = pass.phase.registered();
-        self.pin_seat(&mut pass.pass.seat, token);
+        self.pin_seat(&mut pass.pass.seat, token, pass.place);
         pass.phase.now_pinned();
     }
 
@@ -118,8 +122,7 @@ impl<C: Client> Manager<C> {
         ensures grows { IsPrefix (page pass.old).seen (page pass.new).seen }
         ensures looked { looked pass.new ≡ looked pass.old }
     {
-        let token = pass.phase.pinned();
-        self.words.unpin(&mut pass.pass.seat, token);
+        self.words.unpin(&mut pass.pass.seat, pass.place);
         pass.held.clear();
         pass.phase.now_unpinned();
     }

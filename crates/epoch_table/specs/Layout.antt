@@ -9,6 +9,7 @@ use Rattle.pgas_base.specs.declared.spots.Spot.TheVariants.{Own as OwnSpot, Row 
 use Rattle.epoch_laws.specs.Places.{Place, place_of}
 use Rattle.pgas_base.specs.declared.starts.Start.{Start}
 use Rattle.epoch_laws.specs.States.{IsPlace, opening_words}
+use Rattle.epoch_laws.specs.declared.tokens.Token.{Token}
 use Rattle.epoch_laws.specs.Timing.{IsToken}
 use Rattle.epoch_laws.specs.Words.{WordName, global_epoch, global_election, local_epoch, local_election, list, free_stack, home_chain, token, header_of, next_of, word_at}
 
@@ -72,6 +73,9 @@ module _ (shape : Shape) where
   named_place (token t) = tokens_place + (t.locale * shape.tokens + t.number) * line
   named_place (header_of p) = object_place p
   named_place (next_of p) = object_place p + 1
+
+  abbrev pub token_place : Token → ℕ
+  token_place t = named_place (token t)
 
   abbrev pub place : Site → ℕ
   place (Named name) = named_place name

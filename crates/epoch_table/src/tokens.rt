@@ -4,6 +4,7 @@ ghost use Rattle.epoch_laws.specs.ReclaimSteps.{last_epoch};
 ghost use Rattle.epoch_laws.specs.Timing.{IsToken};
 ghost use Rattle.pass_table.specs.Passes.{IsSeatOf, plan_of, view_of, me_of};
 ghost use Rattle.epoch_table.specs.Kinds.{MayMake, Makes};
+ghost use Rattle.epoch_table.specs.Layout.{token_place};
 
 use crate::clients::Client;
 use crate::layout::epoch_at;
@@ -12,6 +13,15 @@ use epoch_laws::{Kind, Token};
 use std::marker::Brand;
 
 impl<C: Client> Words<C> {
+    /// Where the word of a token stands, which `pin_set` and `unpin` want to be told.
+    #[inline]
+    pub fn place_of_token(&self, token: Token) -> usize
+        requires { IsToken self.now.shape.locales self.now.shape.tokens token }
+        ensures { result ≡ token_place self.now.shape token }
+    {
+        self.shape.token_at(token)
+    }
+
     /// Compares and exchanges a token, 0 to 1.
     #[inline]
     pub fn register(&self, seat: &mut TableSeat<C>, locale: u8, token: u32) -> u64
@@ -52,28 +62,30 @@ impl<C: Client> Words<C> {
         self.load::<Brand>(seat, epoch_at(locale), Kind::PinLook)
     }
 
-    /// Stores two more than the epoch that was read in the seat's token.
+    /// Stores two more than the epoch that was read in the seat's token, which stands there.
     #[inline]
-    pub fn pin_set(&self, seat: &mut TableSeat<C>, token: Token, epoch: u64)
+    pub fn pin_set(&self, seat: &mut TableSeat<C>, at: usize, epoch: u64)
         requires seat { IsSeatOf self.now.table seat.old }
-        requires token { (token ≡ (view_of seat.old).part.seat.token) × IsToken self.now.shape.locales self.now.shape.tokens token }
+        requires token { IsToken self.now.shape.locales self.now.shape.tokens (view_of seat.old).part.seat.token }
+        requires at { at ≡ token_place self.now.shape (view_of seat.old).part.seat.token }
         requires epoch { (epoch ≡ (view_of seat.old).part.seat.announced) × (epoch ≤ last_epoch) }
         requires may { MayMake C.terms (plan_of self.now.table) (view_of seat.old).number Kind.PinSet (view_of seat.old).part }
         ensures seat { IsSeatOf self.now.table seat.new }
         ensures makes { Makes C.terms C.Object.opens C.Object.step (plan_of self.now.table) Kind.PinSet (me_of seat.old) (epoch + 2) (me_of seat.new) }
     {
-        self.store::<Brand>(seat, self.shape.token_at(token), epoch + 2, Kind::PinSet);
+        self.store::<Brand>(seat, at, epoch + 2, Kind::PinSet);
     }
 
-    /// Stores 1 in the seat's token. All holds end.
+    /// Stores 1 in the seat's token, which stands there. All holds end.
     #[inline]
-    pub fn unpin(&self, seat: &mut TableSeat<C>, token: Token)
+    pub fn unpin(&self, seat: &mut TableSeat<C>, at: usize)
         requires seat { IsSeatOf self.now.table seat.old }
-        requires token { (token ≡ (view_of seat.old).part.seat.token) × IsToken self.now.shape.locales self.now.shape.tokens token }
+        requires token { IsToken self.now.shape.locales self.now.shape.tokens (view_of seat.old).part.seat.token }
+        requires at { at ≡ token_place self.now.shape (view_of seat.old).part.seat.token }
         requires may { MayMake C.terms (plan_of self.now.table) (view_of seat.old).number Kind.Unpin (view_of seat.old).part }
         ensures seat { IsSeatOf self.now.table seat.new }
         ensures makes { Makes C.terms C.Object.opens C.Object.step (plan_of self.now.table) Kind.Unpin (me_of seat.old) 1 (me_of seat.new) }
     {
-        self.store::<Brand>(seat, self.shape.token_at(token), 1, Kind::Unpin);
+        self.store::<Brand>(seat, at, 1, Kind::Unpin);
     }
 }

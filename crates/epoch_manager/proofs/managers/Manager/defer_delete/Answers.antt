@@ -4,6 +4,7 @@ use Rattle.epoch_manager.specs.Deferring.{DefersObject, deferral_words}
 use Rattle.epoch_manager.specs.Managers.{plan_of, pointers}
 use Rattle.epoch_manager.proofs.PassClauses.{stands_pinned, inside_so, defer_done, done_listed, done_read, done_begins, done_fits, same_pinned, Changed}
 use Rattle.epoch_manager.proofs.HoldClauses.{numbers_stay}
+use Rattle.epoch_manager.proofs.PhaseFits.{placed_on}
 use Rattle.epoch_manager.proofs.managers.Manager.defer_delete.Goals as goal
 
 pub defer_seat-requires-clause-below : goal.defer_seat-requires-clause-below
@@ -63,7 +64,7 @@ invariant_of-pass g c =
     let n = me_of c.defer_seat.new.seat in
     let defers = c.defer_seat.ensures.defers in
     let d = defer_done K o s p m n phase fits t c.args.ptr c.defer_seat.result is defers in
-    ((d.rests, (d.carried ∙ c.args.pass.now.pass.empty_handed, tt)), (done_fits K o s p m n _ _ _ _ d (ap (λ x. x.plan) c.defer_seat.ensures.seat), (numbers_stay _ m.0.part _ n.0.part c.args.pass.now.holds d.goes.1 refl, tt)))
+    ((d.rests, (d.carried ∙ c.args.pass.now.pass.empty_handed, tt)), (done_fits K o s p m n _ _ _ _ d (ap (λ x. x.plan) c.defer_seat.ensures.seat), (placed_on p _ phase c.args.pass.now.place (ap (λ x. x.plan) c.defer_seat.ensures.seat) (c.args.pass.now.placed p (ap (λ x. x.plan) c.requires.opening)), (numbers_stay _ m.0.part _ n.0.part c.args.pass.now.holds d.goes.1 refl, tt))))
 
 pub returns-clause-owned : goal.returns-clause-owned
 returns-clause-owned g c =

@@ -4,6 +4,7 @@ use Rattle.epoch_manager.specs.Managers.{plan_of}
 use Rattle.epoch_manager.proofs.PassClauses.{done_listed, done_read, done_begins, done_fits}
 use Rattle.epoch_manager.proofs.Returned.{may_give, give_done, give_owned, give_held}
 use Rattle.epoch_manager.proofs.HoldClauses.{numbers_stay}
+use Rattle.epoch_manager.proofs.PhaseFits.{placed_on}
 use Rattle.epoch_manager.proofs.managers.Manager.give_back.Goals as goal
 
 pub return_seat-requires-clause-may : goal.return_seat-requires-clause-may
@@ -29,7 +30,7 @@ invariant_of-pass g c =
     let n = me_of c.return_seat.new.seat in
     let returns = c.return_seat.ensures.returns in
     let d = give_done K o s p m phase fits c.args.ptr c.requires.owned n returns in
-    ((d.rests, (d.carried ∙ c.args.pass.now.pass.empty_handed, tt)), (done_fits K o s p m n _ _ _ _ d (ap (λ x. x.plan) c.return_seat.ensures.seat), (numbers_stay _ m.0.part _ n.0.part c.args.pass.now.holds d.goes.1 refl, tt)))
+    ((d.rests, (d.carried ∙ c.args.pass.now.pass.empty_handed, tt)), (done_fits K o s p m n _ _ _ _ d (ap (λ x. x.plan) c.return_seat.ensures.seat), (placed_on p _ phase c.args.pass.now.place (ap (λ x. x.plan) c.return_seat.ensures.seat) (c.args.pass.now.placed p (ap (λ x. x.plan) c.requires.opening)), (numbers_stay _ m.0.part _ n.0.part c.args.pass.now.holds d.goes.1 refl, tt))))
 
 pub returns-clause-owned : goal.returns-clause-owned
 returns-clause-owned g c =

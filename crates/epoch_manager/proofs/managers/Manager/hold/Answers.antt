@@ -5,6 +5,7 @@ use Rattle.epoch_manager.specs.HeldNumbers.{joined_numbers}
 use Rattle.epoch_manager.specs.Managers.{plan_of}
 use Rattle.epoch_manager.proofs.PassClauses.{fits_plan}
 use Rattle.epoch_manager.proofs.HoldClauses.{link_named, may_hold_so, hold_done, now_owned, now_held, now_among, now_numbered, gains_so, seen_so, holds_link, rests_held}
+use Rattle.epoch_manager.proofs.PhaseFits.{placed_on}
 use Rattle.epoch_manager.proofs.managers.Manager.hold.Goals as goal
 
 pub hold-word-requires-clause-may : goal.hold-word-requires-clause-may
@@ -64,6 +65,7 @@ invariant_of-pass-2 g c =
     let d = hold_done K o s p shaped m n phase fits t is c.args.spot c.hold-word.result c.linked-found.result found.some found.pointer found.none c.hold-word.ensures.holds in
     record {
       fits = fits_plan K o s p n.0 phase (ap (λ x. x.plan) c.hold-word.ensures.seat) d.fits;
+      placed = placed_on p _ phase c.args.pass.now.place (ap (λ x. x.plan) c.hold-word.ensures.seat) (c.args.pass.now.placed p (ap (λ x. x.plan) c.requires.opening));
       holds = c.join.ensures ∙ (ap (λ l. joined_numbers c.linked-found.result l) c.args.pass.now.holds ∙ sym (now_numbered K o s p shaped m n phase fits t is c.args.spot c.hold-word.result c.linked-found.result found.some found.pointer found.none c.hold-word.ensures.holds));
     }
 

@@ -1,11 +1,11 @@
-use Rattle.std.proofs.Common.{◌∙◌, sym, ap, refl, subst, inl, [], ◌∷◌}
+use Rattle.std.proofs.Common.{◌∙◌, sym, ap, refl, subst, inl, inr, [], ◌∷◌}
 use Rattle.epoch_manager.specs.Tokens.{Pins}
 use Rattle.epoch_laws.specs.Words.{local_epoch}
 use Rattle.pass_table.specs.Passes.{me_of}
 use Rattle.epoch_manager.specs.Managers.{pointers, plan_of}
 use Rattle.epoch_manager.proofs.PassClauses.{stands_registered, inside_so, pin_done, done_listed, done_read, done_begins, done_fits, none_held, same_registered, Changed}
 use Rattle.epoch_manager.proofs.HoldClauses.{numbers_stay}
-use Rattle.epoch_manager.proofs.PhaseFits.{fits_as}
+use Rattle.epoch_manager.proofs.PhaseFits.{fits_as, place_known, placed_at, placed_on}
 use Rattle.epoch_manager.proofs.managers.Manager.pin.Goals as goal
 
 pub pin_seat-requires-clause-below : goal.pin_seat-requires-clause-below
@@ -45,6 +45,13 @@ pin_seat-requires-clause-token g c =
     let t = c.registered-token.result in
     (sym (stands_registered m.0.part.seat phase t is fits.stands).1, inside_so K o s p phase t m.0 fits (inl is))
 
+pub pin_seat-requires-clause-place : goal.pin_seat-requires-clause-place
+pin_seat-requires-clause-place g c =
+    let p = plan_of c.args.self.now in
+    let is = c.registered-token.ensures in
+    let t = c.registered-token.result in
+    place_known p.shape c.args.pass.now.phase t c.args.pass.now.place (inl is) (c.args.pass.now.placed p (ap (λ x. x.plan) c.requires.opening))
+
 pub invariant_of-pass : goal.invariant_of-pass
 invariant_of-pass g c =
     let K = g.C.Client.terms in
@@ -73,7 +80,7 @@ invariant_of-pass-2 g c =
     let t = c.registered-token.result in
     let n = me_of c.pin_seat.new.seat in
     let d = pin_done K o s p m n phase fits t c.pin_seat.result is c.pin_seat.ensures.pins in
-    record { fits = fits_as n.0 _ _ (c.now_pinned.ensures t is) (done_fits K o s p m n _ _ _ _ d (ap (λ x. x.plan) c.pin_seat.ensures.seat)); holds = numbers_stay _ m.0.part _ n.0.part c.args.pass.now.holds d.goes.1 refl }
+    record { fits = fits_as n.0 _ _ (c.now_pinned.ensures t is) (done_fits K o s p m n _ _ _ _ d (ap (λ x. x.plan) c.pin_seat.ensures.seat)); placed = placed_on p _ _ c.args.pass.now.place (ap (λ x. x.plan) c.pin_seat.ensures.seat) (placed_at p.shape _ t c.args.pass.now.place (inr (c.now_pinned.ensures t is)) (place_known p.shape phase t c.args.pass.now.place (inl is) (c.args.pass.now.placed p (ap (λ x. x.plan) c.requires.opening)))); holds = numbers_stay _ m.0.part _ n.0.part c.args.pass.now.holds d.goes.1 refl }
 
 pub returns-clause-same : goal.returns-clause-same
 returns-clause-same g c =

@@ -5,6 +5,7 @@ use Rattle.epoch_manager.specs.Managers.{plan_of}
 use Rattle.epoch_manager.proofs.PassClauses.{fits_plan}
 use Rattle.epoch_manager.proofs.SpotClauses.{may_step, step_done, enters_what}
 use Rattle.epoch_manager.proofs.HoldClauses.{numbers_stay}
+use Rattle.epoch_manager.proofs.PhaseFits.{placed_on}
 use Rattle.epoch_manager.proofs.managers.Manager.put.Goals as goal
 
 pub put-requires-clause-may : goal.put-requires-clause-may
@@ -29,7 +30,7 @@ invariant_of-pass g c =
     let fits = c.args.pass.now.fits p (ap (λ x. x.plan) c.requires.opening) in
     let n = me_of c.put.new.seat in
     let d = step_done K o s p m n phase fits c.args.spot (Puts c.args.value) c.args.value c.put.ensures.steps in
-    ((d.rests, (d.carried ∙ c.args.pass.now.pass.empty_handed, tt)), (fits_plan K o s p n.0 phase (ap (λ x. x.plan) c.put.ensures.seat) d.fits, (numbers_stay _ m.0.part _ n.0.part c.args.pass.now.holds d.goes.1 refl, tt)))
+    ((d.rests, (d.carried ∙ c.args.pass.now.pass.empty_handed, tt)), (fits_plan K o s p n.0 phase (ap (λ x. x.plan) c.put.ensures.seat) d.fits, (placed_on p _ phase c.args.pass.now.place (ap (λ x. x.plan) c.put.ensures.seat) (c.args.pass.now.placed p (ap (λ x. x.plan) c.requires.opening)), (numbers_stay _ m.0.part _ n.0.part c.args.pass.now.holds d.goes.1 refl, tt))))
 
 pub returns-clause-enters : goal.returns-clause-enters
 returns-clause-enters g c =

@@ -6,6 +6,7 @@ use Rattle.epoch_manager.specs.Managers.{plan_of}
 use Rattle.epoch_manager.proofs.ObjectSteps.{own, may_show, show_done, show_owned, show_held}
 use Rattle.epoch_manager.proofs.PassClauses.{done_listed, done_fits}
 use Rattle.epoch_manager.proofs.HoldClauses.{numbers_stay}
+use Rattle.epoch_manager.proofs.PhaseFits.{placed_on}
 use Rattle.epoch_manager.proofs.managers.Manager.show.Goals as goal
 
 pub show-requires-clause-place : goal.show-requires-clause-place
@@ -42,7 +43,7 @@ invariant_of-pass g c =
     let fits = c.args.pass.now.fits p (ap (λ x. x.plan) c.requires.opening) in
     let n = me_of c.show.new.seat in
     let d = show_done K o s p m n phase fits c.args.ptr c.requires.owned c.show.ensures.makes in
-    ((d.rests, (d.carried ∙ c.args.pass.now.pass.empty_handed, tt)), (done_fits K o s p m n _ _ _ _ d (ap (λ x. x.plan) c.show.ensures.seat), (numbers_stay _ m.0.part _ n.0.part c.args.pass.now.holds d.goes.1 refl, tt)))
+    ((d.rests, (d.carried ∙ c.args.pass.now.pass.empty_handed, tt)), (done_fits K o s p m n _ _ _ _ d (ap (λ x. x.plan) c.show.ensures.seat), (placed_on p _ phase c.args.pass.now.place (ap (λ x. x.plan) c.show.ensures.seat) (c.args.pass.now.placed p (ap (λ x. x.plan) c.requires.opening)), (numbers_stay _ m.0.part _ n.0.part c.args.pass.now.holds d.goes.1 refl, tt))))
 
 pub returns-clause-owned : goal.returns-clause-owned
 returns-clause-owned g c =

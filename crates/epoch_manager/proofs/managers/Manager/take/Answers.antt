@@ -5,6 +5,7 @@ use Rattle.epoch_manager.specs.Managers.{plan_of}
 use Rattle.epoch_manager.proofs.PassClauses.{done_listed, done_read, done_begins, done_fits}
 use Rattle.epoch_manager.proofs.HoldClauses.{numbers_stay}
 use Rattle.epoch_manager.proofs.TakeCalls.{may_take, take_done, take_reads, take_owned, take_held, take_same, take_knows, take_inside, take_told, take_spent}
+use Rattle.epoch_manager.proofs.PhaseFits.{placed_on}
 use Rattle.epoch_manager.proofs.managers.Manager.take.Goals as goal
 
 pub take_seat-requires-clause-may : goal.take_seat-requires-clause-may
@@ -34,7 +35,7 @@ invariant_of-pass g c =
     let takes = c.take_seat.ensures.takes in
     let d = take_done K o s p m phase fits n shaped c.args.locale c.take_seat.result takes in
     let same = take_same K o s p m phase fits n shaped c.args.locale c.take_seat.result takes in
-    ((d.rests, (d.carried ∙ c.args.pass.now.pass.empty_handed, tt)), (done_fits K o s p m n _ _ _ _ d (ap (λ x. x.plan) c.take_seat.ensures.seat), (numbers_stay _ m.0.part _ n.0.part c.args.pass.now.holds d.goes.1 same, tt)))
+    ((d.rests, (d.carried ∙ c.args.pass.now.pass.empty_handed, tt)), (done_fits K o s p m n _ _ _ _ d (ap (λ x. x.plan) c.take_seat.ensures.seat), (placed_on p _ phase c.args.pass.now.place (ap (λ x. x.plan) c.take_seat.ensures.seat) (c.args.pass.now.placed p (ap (λ x. x.plan) c.requires.opening)), (numbers_stay _ m.0.part _ n.0.part c.args.pass.now.holds d.goes.1 same, tt))))
 
 pub returns-clause-owned : goal.returns-clause-owned
 returns-clause-owned g c =

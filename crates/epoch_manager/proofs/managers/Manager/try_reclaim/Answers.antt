@@ -5,6 +5,7 @@ use Rattle.epoch_manager.proofs.HoldClauses.{numbers_stay}
 use Rattle.epoch_manager.proofs.PassClauses.{stands_registered, inside_so, done_begins, done_fits, done_read}
 use Rattle.epoch_manager.proofs.Reclaimed.{places_of, finished, reclaim_owned, reclaim_held, reclaim_listed, reclaim_read}
 use Rattle.epoch_manager.proofs.Returned.{settled_so}
+use Rattle.epoch_manager.proofs.PhaseFits.{placed_on}
 use Rattle.epoch_manager.proofs.managers.Manager.try_reclaim.Goals as goal
 
 pub reclaim_seat-requires-clause-below : goal.reclaim_seat-requires-clause-below
@@ -102,7 +103,7 @@ invariant_of-pass g c =
     let result = c.reclaim_seat.result in
     let f = finished K o s p m n phase fits t is result c.reclaim_seat.ensures.reclaims in
     let d = f.done in
-    ((d.rests, (d.carried ∙ c.args.pass.now.pass.empty_handed, tt)), (done_fits K o s p m n _ _ _ _ d (ap (λ x. x.plan) c.reclaim_seat.ensures.seat), (numbers_stay _ m.0.part n.0.part n.0.part c.args.pass.now.holds refl f.kept.held, tt)))
+    ((d.rests, (d.carried ∙ c.args.pass.now.pass.empty_handed, tt)), (done_fits K o s p m n _ _ _ _ d (ap (λ x. x.plan) c.reclaim_seat.ensures.seat), (placed_on p _ phase c.args.pass.now.place (ap (λ x. x.plan) c.reclaim_seat.ensures.seat) (c.args.pass.now.placed p (ap (λ x. x.plan) c.requires.opening)), (numbers_stay _ m.0.part n.0.part n.0.part c.args.pass.now.holds refl f.kept.held, tt))))
 
 pub returns-clause-owned : goal.returns-clause-owned
 returns-clause-owned g c =

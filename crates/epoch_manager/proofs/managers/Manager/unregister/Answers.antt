@@ -1,4 +1,4 @@
-use Rattle.std.proofs.Common.{◌∙◌, sym, ap, refl, subst, inl, []}
+use Rattle.std.proofs.Common.{◌≡◌, ◌∙◌, true, sym, ap, refl, subst, inl, []}
 use Rattle.epoch_laws.specs.declared.events.EpochEvent.TheVariants.{Unregistered}
 use Rattle.epoch_laws.specs.Needs.{event}
 use Rattle.epoch_laws.specs.Timing.{IsToken}
@@ -6,7 +6,8 @@ use Rattle.pass_table.specs.Passes.{me_of}
 use Rattle.epoch_manager.specs.Managers.{pointers, plan_of, ListsItems}
 use Rattle.epoch_manager.proofs.PassClauses.{stands_registered, inside_so, may_unregister, unregister_done, done_listed, done_begins, done_fits, done_looked, same_registered, Changed}
 use Rattle.epoch_manager.proofs.HoldClauses.{numbers_stay}
-use Rattle.epoch_manager.proofs.PhaseFits.{fits_as}
+use Rattle.epoch_manager.proofs.PhaseFits.{fits_as, placed_on}
+use Rattle.epoch_manager.specs.Fits.{is_placed}
 use Rattle.epoch_manager.proofs.managers.Manager.unregister.Goals as goal
 
 pub unregister-requires-clause-token : goal.unregister-requires-clause-token
@@ -63,7 +64,7 @@ invariant_of-pass-2 g c =
     let t = c.registered-token.result in
     let n = me_of c.unregister.new.seat in
     let d = unregister_done K o s p m n phase fits t is c.unregister.ensures.makes in
-    record { fits = fits_as n.0 _ _ c.now_idle.ensures (done_fits K o s p m n _ _ _ _ d (ap (λ x. x.plan) c.unregister.ensures.seat)); holds = numbers_stay _ m.0.part _ n.0.part c.args.pass.now.holds d.goes.1 refl }
+    record { fits = fits_as n.0 _ _ c.now_idle.ensures (done_fits K o s p m n _ _ _ _ d (ap (λ x. x.plan) c.unregister.ensures.seat)); placed = placed_on p _ _ c.args.pass.now.place (ap (λ x. x.plan) c.unregister.ensures.seat) (subst (λ f. is_placed p.shape f c.args.pass.now.place ≡ true) (sym c.now_idle.ensures) refl); holds = numbers_stay _ m.0.part _ n.0.part c.args.pass.now.holds d.goes.1 refl }
 
 pub returns-clause-same : goal.returns-clause-same
 returns-clause-same g c =
