@@ -1,23 +1,22 @@
 -- The item of a step is what its outcome lists.
-use Rattle.std.proofs.Common.{◌≡◌, ◌==◌, ◌<◌, ◌≤◌, ◌^◌, ◌+◌, ℕ, Bool, true, false, if◌then◌else◌, List, [], ◌∷◌, Some, None, refl, ap, sym, ◌∙◌, subst, arith}
+use Rattle.std.proofs.Common.{◌≡◌, ◌<◌, ◌≤◌, ◌^◌, ℕ, Bool, true, false, if◌then◌else◌, [], ◌∷◌, refl, ap, sym, ◌∙◌, subst, arith}
 use Rattle.pgas_base.specs.Shapes.{IsShape}
-use Rattle.epoch_laws.specs.declared.events.EpochEvent.TheVariants.{Registered, Unregistered, Pinned, Unpinned, Given, Shown, Held, Deferred, Freed, Returned}
+use Rattle.epoch_laws.specs.declared.events.EpochEvent.TheVariants.{Unregistered, Pinned, Unpinned, Given, Held, Deferred}
 use Rattle.epoch_laws.specs.declared.events.Item.{Item}
-use Rattle.epoch_laws.specs.declared.events.Item.TheVariants.{Event, Advance as AdvanceItem, Claim, Leave as LeaveItem}
+use Rattle.epoch_laws.specs.declared.events.Item.TheVariants.{Event, Advance as AdvanceItem, Leave as LeaveItem}
 use Rattle.epoch_laws.specs.declared.steps.Kind.{Kind}
 use Rattle.epoch_laws.specs.declared.steps.Kind.TheVariants.{Register, Unregister, PinLook, PinSet, Unpin, TakeLook, TakeTry, Show, Hold, Touch, Return, DeferLook, DeferSwap, DeferLink, ElectLocal, ElectGlobal, EpochLook, ScanToken, Advance, Spread, Collect, Walk, Release, Leave, StackLook, StackNext, StackPop, StackPut, HandLink, HomeSwap, HomeLink, HomeTake, HomeWalk}
 use Rattle.epoch_laws.specs.declared.steps.Seen.{Seen}
-use Rattle.epoch_laws.specs.declared.steps.Seen.TheVariants.{Word, Won, Lost}
-use Rattle.epoch_laws.specs.declared.tokens.Token.{Token}
+use Rattle.epoch_laws.specs.declared.steps.Seen.TheVariants.{Won, Lost}
 use Rattle.epoch_laws.specs.DeferralSteps.{defer_look, defer_swap, defer_link}
 use Rattle.epoch_laws.specs.HoldSteps.{hold, touch}
 use Rattle.epoch_laws.specs.HomeSteps.{home_swap, home_link, home_take, home_walk}
 use Rattle.epoch_laws.specs.Needs.{AllMet, Outcome}
-use Rattle.epoch_laws.specs.ReclaimSteps.{elect_local, elect_global, epoch_look, scan_token, advance, spread, collect, walk, release, leave, has_global}
-use Rattle.epoch_laws.specs.StackSteps.{stack_look, stack_next, stack_pop, stack_put, hand_link, same_head}
+use Rattle.epoch_laws.specs.ReclaimSteps.{elect_local, elect_global, epoch_look, scan_token, advance, spread, collect, walk, release, leave}
+use Rattle.epoch_laws.specs.StackSteps.{stack_look, stack_next, stack_pop, stack_put, hand_link}
 use Rattle.epoch_laws.specs.States.{State}
 use Rattle.epoch_laws.specs.Steps.{move}
-use Rattle.epoch_laws.specs.TakeSteps.{take_look, take_try, show, give_back, is_free_with, look_count}
+use Rattle.epoch_laws.specs.TakeSteps.{take_look, take_try, show, give_back}
 use Rattle.epoch_laws.specs.TokenSteps.{register, unregister, pin_look, pin_set, unpin}
 use Rattle.epoch_core.specs.declared.items.Known.{Known}
 use Rattle.epoch_core.specs.Listed.{IsKnown, NamesPointer, if_won, item_of, listed, with_word}

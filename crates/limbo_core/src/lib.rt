@@ -8,7 +8,5 @@
 #![tactic(auto)]
 
 mod chains;
-#[cfg(test)]
-mod tests;
 
 pub use chains::Chains;

@@ -1,4 +1,4 @@
-//! Tests of the plain objects, of segments, and of the deque and the bag that threads share.
+//! Tests of the laws of histories, of the plain objects, of segments, and of the deque and the bag that threads share.
 //!
 //! They stand in a crate of their own: a crate that has tests is proved once without and once with them, and these crates
 //! are large.
@@ -8,6 +8,8 @@
 mod bags;
 #[cfg(test)]
 mod deques;
+#[cfg(test)]
+mod histories;
 #[cfg(test)]
 mod plain_objects;
 #[cfg(test)]

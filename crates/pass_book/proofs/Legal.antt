@@ -1,5 +1,5 @@
 -- Histories that grow by one step.
-use Rattle.std.proofs.Common.{◌≡◌, ℕ, List, [], ◌∷◌, ◌++◌, refl, ap, sym, ◌∙◌, subst}
+use Rattle.std.proofs.Common.{List, [], ◌∷◌, ◌++◌, refl, sym, subst}
 use Rattle.pass_book.specs.declared.entries.Entry.{Entry}
 use mathlib.Core.List.{IsPrefix}
 use Rattle.pass_book.specs.Histories.{Leads, Leaves, IsLegal}

@@ -1,5 +1,5 @@
 -- What one caller's page becomes at a step: its own entry, another's entry, a look at the whole history, and a note.
-use Rattle.std.proofs.Common.{◌≡◌, ◌≢◌, ℕ, List, [], ◌∷◌, ◌++◌, refl, ap, sym, ◌∙◌, append_assoc, subst}
+use Rattle.std.proofs.Common.{◌≡◌, ◌≢◌, ℕ, List, [], ◌∷◌, ◌++◌, refl, ap, sym, ◌∙◌, subst}
 use mathlib.Core.List.{IsPrefix}
 use Rattle.pass_book.specs.declared.entries.Entry.{Entry}
 use Rattle.pass_book.specs.Histories.{entries_of, IsOfOthers, IsOfCallers, IsLegal}

@@ -17,6 +17,3 @@ mod objects;
 pub use entries::{Entry, Look};
 pub use laws::{entries_added, entry_added, list_is_sublist, note_taken, shorter_begins_longer};
 pub use objects::Object;
-
-#[cfg(test)]
-mod tests;

@@ -1,5 +1,5 @@
 -- What steps come to together, one after another, and what a call then says of its caller's page.
-use Rattle.std.proofs.Common.{◌≡◌, ℕ, suc, ◌<◌, Bool, true, false, cond, List, [], ◌∷◌, ◌++◌, length, refl, ap, ap₂, sym, ◌∙◌, subst, arith, inl, inr, ⊎_elim, append_assoc}
+use Rattle.std.proofs.Common.{◌≡◌, ℕ, suc, true, false, cond, List, [], ◌∷◌, ◌++◌, refl, ap, ap₂, sym, ◌∙◌, subst, arith, inl, inr, ⊎_elim, append_assoc}
 use Rattle.std.specs.List.{All}
 use Rattle.std.proofs.lemmas.List.{append-nil}
 use Rattle.std.proofs.lemmas.List.Elements.{All-nil, All-append}
@@ -7,17 +7,17 @@ use mathlib.Core.List.{IsPrefix}
 use Rattle.atomic_table.specs.Table.{Me}
 use Rattle.pass_book.specs.declared.entries.Entry.{Entry}
 use Rattle.pass_book.specs.declared.entries.Look.{Look}
-use Rattle.pass_book.specs.Histories.{IsLegal, IsOfCallers, IsOfOthers, entries_of}
-use Rattle.pass_book.specs.Pages.{Page, IsPage, Gains, Enters, EntersNothing}
+use Rattle.pass_book.specs.Histories.{IsOfCallers, entries_of}
+use Rattle.pass_book.specs.Pages.{Gains, Enters, EntersNothing}
 use Rattle.pass_book.proofs.Prefixes.{prefix_self, prefix_more, prefix_trans}
 use Rattle.pass_book.proofs.PageSteps.{between_of_others}
 use Rattle.pass_book.proofs.Sublists.{entries_of-append, entries_of-own, entries_of-alone}
 use Rattle.pass_table.specs.declared.views.View.{View}
 use Rattle.pass_table.specs.Terms.{Terms, Effect, SeesSo, MovesSo}
-use Rattle.pass_table.specs.Words.{Meets, AreTries, joined}
+use Rattle.pass_table.specs.Words.{Meets, joined}
 use Rattle.pass_table.specs.Views.{page_of}
 use Rattle.pass_table.proofs.Lists.{all_one}
-use Rattle.pass_table.specs.Steps.{IsSound, view_after, Steps, SameCaller, Goes, GoesAmong, Stays, GoesTo, GoesAmongTo, StaysTo, HasTried}
+use Rattle.pass_table.specs.Steps.{IsSound, Steps, Goes, GoesAmong, Stays, GoesTo, GoesAmongTo, StaysTo, HasTried}
 
 append_same : {A : Type 0} (xs ys zs : List A) → xs ++ ys ≡ xs ++ zs → ys ≡ zs
 append_same [] ys zs same = same

@@ -1,13 +1,11 @@
 -- Passes that look at word 0 one after another.
-use Rattle.std.proofs.Common.{◌≡◌, ◌≢◌, ℕ, zero, suc, ◌+◌, ◌<◌, ◌≤◌, ◌⊎◌, List, [], ◌∷◌, ◌++◌, length, set, get_or, take, drop, map, refl, ap, ap₂, sym, ◌∙◌, subst, arith, ⊎_elim, inl, inr, append_assoc, Some, slice_get, length-set, true, cond}
-use Rattle.std.specs.List.{All, Contains}
+use Rattle.std.proofs.Common.{◌≡◌, ℕ, ◌+◌, ◌<◌, ◌≤◌, ◌⊎◌, List, [], ◌∷◌, ◌++◌, length, set, get_or, take, drop, refl, ap, sym, ◌∙◌, subst, arith, ⊎_elim, inl, inr, append_assoc, Some, slice_get, length-set, cond}
+use Rattle.std.specs.List.{All}
 use Rattle.std.specs.Ordering.{ord_max, nat_cmp}
 use Rattle.std.proofs.lemmas.Grind.{common_steps}
 use Rattle.std.proofs.lemmas.List.{append-nil}
 use Rattle.std.proofs.Math.Seq.{take-append_seam}
 use Rattle.std.proofs.lemmas.Option.{slice_get-get_or, slice_get_within, get_or_from_slice_get}
-use mathlib.Core.List.{IsPrefix}
-use Rattle.atomic_table.specs.Table.{Me}
 use Rattle.pass_book.specs.declared.entries.Entry.{Entry}
 use Rattle.pass_book.specs.declared.entries.Look.{Look}
 use Rattle.pass_book.specs.Histories.{IsOfCallers, entries_of}
@@ -15,10 +13,9 @@ use Rattle.pass_book.specs.Pages.{IsPageOf}
 use Rattle.pass_book.proofs.Prefixes.{prefix_trans}
 use Rattle.pass_book.proofs.Sublists.{entries_of-append, entries_of-own, rest_of_others}
 use Rattle.pass_book.proofs.BookLaws.{got_set}
-use Rattle.pass_table.specs.declared.views.View.{View}
 use Rattle.pass_table.specs.declared.passes.Pass.{Pass}
 use Rattle.pass_table.specs.declared.tables.PassTable.{PassTable}
-use Rattle.pass_table.specs.Terms.{Terms, Effect}
+use Rattle.pass_table.specs.Terms.{Terms}
 use Rattle.pass_table.specs.Steps.{Steps, SeesFirst}
 use Rattle.pass_table.specs.Passes.{page, pass_view, caller_of, pass_opening, opening_of, plan_of}
 use Rattle.pass_table.specs.Openings.{AreOfOpening}

@@ -128,24 +128,3 @@ impl fmt::Debug for Ptr {
             .finish()
     }
 }
-
-#[cfg(test)]
-mod tests {
-    use super::*;
-
-    #[test]
-    fn words_and_pointers_agree(rt: HostRuntime) {
-        let rows = [
-            (Ptr::new(2, 5, 7), 0x0200_0005_0000_0007),
-            (Ptr::new(0, 1, 0), 0x0000_0001_0000_0000),
-            (Ptr::new(15, 0xff_ffff, u32::MAX), 0x0fff_ffff_ffff_ffff),
-        ];
-        for (pointer, word) in rows {
-            assert_eq!(rt; pointer.word(), word, "{pointer:?}");
-            assert_eq!(rt; Ptr::of_word(word), Some(pointer), "{word:x}");
-        }
-        for word in [0, 7, 0x0f00_0000_0000_0001, 0x1000_0001_0000_0000, u64::MAX] {
-            assert_eq!(rt; Ptr::of_word(word), None, "{word:x}");
-        }
-    }
-}

@@ -9,8 +9,6 @@
 mod free_words;
 mod headers;
 mod moves;
-#[cfg(test)]
-mod tests;
 
 pub use free_words::{FreeWord, free_word, of_free_word};
 pub use headers::{Header, State};

@@ -1,12 +1,11 @@
 -- What a shared bag's clauses say of a call, as a script's history has it.
-use Rattle.std.proofs.Common.{◌≡◌, inl, inr, ⊎_elim, ℕ, ◌*◌, ◌≤◌, ◌==◌, List, [], ◌∷◌, ◌++◌, length, Bool, true, false, Option, Some, None, Result, Ok, Err, MatchBool, refl, ap, sym, ◌∙◌, subst, append_assoc}
+use Rattle.std.proofs.Common.{◌≡◌, inl, inr, ⊎_elim, ℕ, ◌*◌, ◌≤◌, ◌==◌, List, [], ◌++◌, length, Bool, true, false, Option, Some, None, Result, Ok, Err, MatchBool, refl, ap, sym, ◌∙◌, subst, append_assoc}
 use Rattle.std.proofs.lemmas.List.{append-nil}
 use Rattle.std.proofs.lemmas.Bool.Decides.{eqb_tells}
 use Rattle.std.proofs.lemmas.List.{append_cancel_left}
 use mathlib.Core.List.{IsPrefix}
 use Rattle.pass_book.specs.Histories.{entries_of, IsOfOthers}
 use Rattle.pass_book.proofs.Sublists.{entries_of-append, front_empty}
-use Rattle.seq_objects.specs.declared.bags.BagCall.{BagCall}
 use Rattle.seq_objects.specs.declared.bags.BagCall.TheVariants.{Add, Remove}
 use Rattle.seq_objects.specs.declared.bags.BagReply.{BagReply}
 use Rattle.seq_objects.specs.declared.bags.BagReply.TheVariants as bag
@@ -26,7 +25,7 @@ use Rattle.seq_objects.specs.declared.kept_items.AnyItem.{AnyItem}
 use Rattle.script_text.specs.declared.scripts.Call.{Call}
 use Rattle.script_text.specs.declared.scripts.Call.TheVariants.{List as OfList, Bag as OfBag, Deque as OfDeque}
 use Rattle.script_text.specs.declared.replies.Reply.{Reply}
-use Rattle.script_text.specs.declared.replies.Reply.TheVariants.{Added, Full, Took, Empty}
+use Rattle.script_text.specs.declared.replies.Reply.TheVariants.{Added, Full}
 use Rattle.script_engine.specs.BagCalls.{AnyBagPass, ShowsAdd, ShowsRemove, Adds, AddAnswers, RemoveAnswers, BagGives}
 use Rattle.script_engine.specs.Rounds.{Makes}
 use Rattle.script_engine.specs.Says.{AtMoment, LeavesFull, IsFullWith, SaysBag}

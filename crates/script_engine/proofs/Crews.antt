@@ -1,14 +1,12 @@
 -- Several workers, and their halves.
-use Rattle.std.proofs.Common.{◌≡◌, ℕ, suc, ◌+◌, ◌<◌, ◌^◌, All, List, [], ◌∷◌, ◌++◌, length, take, slice_index_or, Result, Ok, Err, IsOk, OnOk, arith, refl, sym, ◌∙◌, subst}
-use Rattle.std.proofs.lemmas.List.{append-nil, take-append-drop, take_more}
+use Rattle.std.proofs.Common.{◌≡◌, ℕ, suc, ◌+◌, ◌<◌, ◌^◌, All, List, [], ◌∷◌, ◌++◌, length, take, slice_index_or, Result, Ok, Err, IsOk, OnOk, arith, refl, sym, subst}
+use Rattle.std.proofs.lemmas.List.{append-nil, take_more}
 use Rattle.std.specs.Global.{Vec}
 use Rattle.pass_book.specs.declared.entries.Entry.{Entry}
 use Rattle.pass_book.specs.Pages.{Page}
 use Rattle.script_text.specs.declared.scripts.Call.{Call}
 use Rattle.script_text.specs.declared.replies.Reply.{Reply}
 use Rattle.script_engine.specs.declared.rounds.Worker.{Worker}
-use Rattle.script_engine.specs.Replied.{Replied}
-use Rattle.script_engine.specs.Rounds.{Makes}
 use Rattle.script_engine.specs.Workers.{AreIdle, AreReady, Worked, AllWorked}
 
 idle-append : (calls more : List (Vec Call)) → AreIdle calls → AreIdle more → AreIdle (calls ++ more)

@@ -1,16 +1,13 @@
 -- Calls with an entry, as a script's history has them.
-use Rattle.std.proofs.Common.{◌≡◌, inl, inr, ℕ, List, [], ◌∷◌, ◌++◌, refl, ap, sym, ◌∙◌, subst, append_assoc, eq-eqb}
-use Rattle.std.proofs.lemmas.List.{append-nil}
-use mathlib.Core.List.{IsPrefix}
+use Rattle.std.proofs.Common.{inr, ℕ, [], ◌∷◌, ◌++◌, refl, ◌∙◌, append_assoc}
 use Rattle.pass_book.specs.declared.entries.Entry.{Entry}
-use Rattle.pass_book.specs.Histories.{entries_of, IsOfOthers}
 use Rattle.pass_book.specs.Pages.{Page, Enters}
 use Rattle.pass_book.proofs.Sublists.{entries_of-own}
 use Rattle.script_text.specs.declared.scripts.Call.{Call}
 use Rattle.script_text.specs.declared.replies.Reply.{Reply}
 use Rattle.script_engine.specs.Rounds.{Makes}
 use Rattle.script_engine.specs.Widening.{behind_others}
-use Rattle.script_engine.specs.Says.{IsEntered, SaysPlainly}
+use Rattle.script_engine.specs.Says.{SaysPlainly}
 
 module _ {Asked Told State : Type 0} (opens : State → Type 0) (step : State → Asked → Told → State → Type 0) (Shows : Call → Reply → Asked → Told → Type 0) (HasNoEntry : Call → Reply → Type 0) where
   -- an object's entry is how the call stands in the history

@@ -1,5 +1,5 @@
 -- The calls of many callers, round by round, are an answer.
-use Rattle.std.proofs.Common.{◌≡◌, ◌⊎◌, inl, inr, ℕ, List, [], ◌∷◌, ◌++◌, length, slice_get, Some, arith, refl, ap, sym, ◌∙◌, subst, append_assoc, length-append}
+use Rattle.std.proofs.Common.{◌≡◌, ◌⊎◌, inl, inr, ℕ, List, [], ◌∷◌, ◌++◌, refl, ap, sym, ◌∙◌, subst, append_assoc}
 use Rattle.std.proofs.lemmas.List.{append-nil}
 use mathlib.Core.List.{IsPrefix}
 use Rattle.pass_book.specs.declared.entries.Entry.{Entry}
@@ -9,9 +9,9 @@ use Rattle.pass_book.proofs.Prefixes.{prefix_self, prefix_trans}
 use Rattle.pass_book.proofs.Sublists.{entries_of-append, entries_of-between, rest_of_others}
 use Rattle.script_text.specs.declared.scripts.Call.{Call}
 use Rattle.script_text.specs.declared.replies.Reply.{Reply}
-use Rattle.script_engine.specs.Answers.{Stands, AnswersRound}
+use Rattle.script_engine.specs.Answers.{Stands}
 use Rattle.script_engine.specs.Replied.{Replied}
-use Rattle.script_engine.specs.Rounds.{IsSynced, AreSynced, Makes, Widens, WentOn}
+use Rattle.script_engine.specs.Rounds.{IsSynced, Makes, Widens, WentOn}
 
 same_rest : {A : Type 0} (front xs ys : List A) → front ++ xs ≡ front ++ ys → xs ≡ ys
 same_rest [] xs ys is = is

@@ -18,7 +18,7 @@ use Rattle.script_engine.specs.Answers.{Stands, AnswersRound, AnswersRounds}
 use Rattle.script_engine.specs.Replied.{Replied}
 use Rattle.script_engine.specs.Rounds.{IsSynced, Makes, Widens, WentOn}
 use Rattle.script_engine.specs.Runs.{IsAt, HaveRun, IsAskedOf, calls_of}
-use Rattle.script_engine.specs.Workers.{AreReady, AreFit, AreOwn, Worked, AllWorked, HasTold, HasLearnt, IsTold, IsSpread, AreSpread}
+use Rattle.script_engine.specs.Workers.{AreReady, AreFit, AreOwn, Worked, AllWorked, HasLearnt, IsSpread, AreSpread}
 use Rattle.script_engine.proofs.Crews.{ready_from}
 use Rattle.script_engine.proofs.ManyCallers.{only_adds, stays_page, went_on}
 

@@ -1,14 +1,13 @@
 -- What the rounds of a valid script ask of its object.
-use Rattle.std.proofs.Common.{◌≡◌, inl, inr, ℕ, ◌+◌, ◌-◌, ◌<◌, ◌≤◌, ◌^◌, Bool, true, List, [], ◌∷◌, ◌++◌, length, slice_index_or, All, arith, refl, ap, sym, ◌∙◌, subst, length-append}
+use Rattle.std.proofs.Common.{◌≡◌, inl, inr, ℕ, ◌<◌, ◌≤◌, ◌^◌, true, List, [], ◌∷◌, length, slice_index_or, All, arith, ap, length-append}
 use Rattle.std.specs.Prelude.{sum_by}
 use Rattle.std.proofs.lemmas.List.{get_or_past}
 use Rattle.std.proofs.lemmas.List.Sums.{sum_by-cons, get_or-le-sum_by}
 use Rattle.std.proofs.lemmas.Option.{slice_get_cases}
 use Rattle.script_text.specs.declared.scripts.Call.{Call}
-use Rattle.script_text.specs.declared.scripts.ObjectLine.{ObjectLine}
-use Rattle.script_text.specs.Lines.{IsOfObject, IsCallOf}
+use Rattle.script_text.specs.Lines.{IsOfObject}
 use Rattle.script_text.specs.Rows.{is_once}
-use Rattle.script_text.specs.Scripts.{PlainScript, IsValid, counted_lines}
+use Rattle.script_text.specs.Scripts.{PlainScript, IsValid}
 use Rattle.script_engine.specs.Runs.{IsAskedOf, calls_of}
 
 one_list : (c : ℕ) (round : List (List Call)) → length (slice_index_or round c []) ≤ sum_by length round

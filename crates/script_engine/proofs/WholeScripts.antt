@@ -1,10 +1,9 @@
 -- What has been run by its workers, closed: an answer.
-use Rattle.std.proofs.Common.{◌≡◌, ℕ, suc, ◌+◌, ◌<◌, ◌^◌, List, [], ◌∷◌, ◌++◌, length, map, take, drop, slice_index_or, slice_get, Some, All, Contains, cond, Bool, arith, refl, ap, sym, ◌∙◌, subst, eq-eqb}
+use Rattle.std.proofs.Common.{◌≡◌, ℕ, ◌<◌, List, [], ◌∷◌, ◌++◌, length, map, take, drop, slice_index_or, slice_get, Some, All, cond, Bool, arith, refl, ap, sym, ◌∙◌, subst, eq-eqb}
 use Rattle.std.specs.List.{flat_map}
-use Rattle.std.proofs.lemmas.List.{append-nil, get_or-map, get_or_default, length-map, map-append}
+use Rattle.std.proofs.lemmas.List.{append-nil, get_or-map, length-map}
 use Rattle.std.proofs.lemmas.Option.{slice_get-get_or}
 use Rattle.std.proofs.Math.Seq.{take-append_seam}
-use Rattle.std.proofs.lemmas.List.Elements.{Contains-get_or}
 use mathlib.Core.List.{IsPrefix}
 use Rattle.pass_book.specs.declared.entries.Entry.{Entry}
 use Rattle.pass_book.specs.Histories.{entries_of, IsOfOthers, IsOfCallers}
@@ -16,9 +15,7 @@ use Rattle.script_text.specs.declared.replies.Reply.{Reply}
 use Rattle.script_text.specs.declared.replies.Replies.{Replies}
 use Rattle.script_text.specs.Replies.{reply_lists, left_items}
 use Rattle.script_engine.specs.declared.rounds.Worker.{Worker}
-use Rattle.script_engine.specs.Answers.{AnswersRounds, AreJoined}
 use Rattle.script_engine.specs.Numbers.{AreInOrder}
-use Rattle.script_engine.specs.Rounds.{IsSynced}
 use Rattle.script_engine.specs.Runs.{IsAt, HaveRun, AreNew, AreHired, AreDismissed, HaveAnswered}
 
 -- a list that was written from its beginning to its end

@@ -1,5 +1,5 @@
 -- What a script's calls of a shared deque give, by the deque's own clauses.
-use Rattle.std.specs.Prelude.{◌≡◌, ℕ, true, false, List, Option, Some, None, Result, Ok, Err}
+use Rattle.std.specs.Prelude.{◌≡◌, ℕ, true, false, Option, Some, None, Result, Ok, Err}
 use Rattle.seq_objects.specs.declared.deques.DequeCall.{DequeCall}
 use Rattle.seq_objects.specs.declared.deques.DequeCall.TheVariants.{PushBack, PushFront, PopBack, PopFront}
 use Rattle.seq_objects.specs.declared.deques.DequeReply.{DequeReply}

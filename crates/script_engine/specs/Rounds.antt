@@ -1,5 +1,5 @@
 -- What the pages of many callers show of their calls, round by round.
-use Rattle.std.specs.Prelude.{◌≡◌, ◌⊎◌, ℕ, List, [], ◌∷◌, ◌++◌, length, slice_get, Some}
+use Rattle.std.specs.Prelude.{◌≡◌, ◌⊎◌, ℕ, List, [], ◌++◌, slice_get, Some}
 use mathlib.Core.List.{IsPrefix}
 use Rattle.pass_book.specs.declared.entries.Entry.{Entry}
 use Rattle.pass_book.specs.Histories.{entries_of, IsOfOthers}

@@ -1,5 +1,5 @@
 -- What others did just before a call may be counted to its stretch of the history.
-use Rattle.std.specs.Prelude.{◌≡◌, ℕ, ◌==◌, List, [], ◌∷◌, ◌++◌}
+use Rattle.std.specs.Prelude.{◌≡◌, ℕ, ◌==◌, List, ◌++◌}
 use Rattle.std.proofs.Common.{inl, inr, ap, ◌∙◌, subst, append_assoc}
 use Rattle.std.proofs.lemmas.List.Elements.{filter-append}
 use Rattle.pass_book.specs.declared.entries.Entry.{Entry}

@@ -1,5 +1,5 @@
 -- The items of segments, moved into one list, one after another.
-use Rattle.std.proofs.Common.{◌≡◌, ◌==◌, ⊎_elim, inl, inr, eq-eqb, ne_eqb, None, ℕ, zero, suc, ◌+◌, ◌*◌, ◌/◌, ◌%◌, ◌<◌, ◌≤◌, List, [], ◌∷◌, ◌++◌, length, refl, ap, sym, ◌∙◌, subst, arith, append_assoc, length-append, Option, Bool, false, get_or, set}
+use Rattle.std.proofs.Common.{◌≡◌, ⊎_elim, inl, inr, eq-eqb, ne_eqb, None, ℕ, zero, suc, ◌+◌, ◌/◌, ◌%◌, ◌<◌, ◌≤◌, List, [], ◌∷◌, ◌++◌, length, refl, ap, sym, ◌∙◌, subst, arith, append_assoc, length-append, Option, Bool, false, get_or, set}
 use Rattle.std.specs.Prelude.{IsPermutation, ◌⊎◌, if◌then◌else◌}
 use Rattle.std.proofs.lemmas.List.{append-nil}
 use Rattle.std.proofs.lemmas.List.Sorted.{IsPermutation-refl, IsPermutation-trans, IsPermutation-append, IsPermutation-to_front, IsPermutation-cons, length_permutation}

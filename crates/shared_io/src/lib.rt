@@ -10,8 +10,6 @@ mod gates;
 mod limits;
 mod sinks;
 mod sources;
-#[cfg(test)]
-mod tests;
 mod text_sink;
 mod text_source;
 

@@ -1,5 +1,4 @@
-use Rattle.std.proofs.Common.{◌≡◌, ◌+◌, ◌<◌, ◌≤◌, ℕ, take, slice_index_or, List, ◌∷◌, [], ◌++◌, length, sym, ap, ◌∙◌, subst, rules}
-use Rattle.pass_book.specs.Pages.{Page}
+use Rattle.std.proofs.Common.{◌≡◌, ◌+◌, ℕ, take, slice_index_or, List, ◌∷◌, [], ◌++◌, sym, ◌∙◌, subst, rules}
 use Rattle.script_text.specs.declared.scripts.Call.TheVariants.{List as OfList}
 use Rattle.script_text.specs.declared.replies.Reply.{Reply}
 use Rattle.script_engine.specs.Replied.{Replied}

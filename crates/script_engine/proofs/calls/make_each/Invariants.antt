@@ -1,4 +1,4 @@
-use Rattle.std.proofs.Common.{◌≡◌, ◌+◌, ◌≤◌, length, take, vec_len, vec_capacity}
+use Rattle.std.proofs.Common.{◌≡◌, ◌≤◌, length, take, vec_len, vec_capacity}
 use Rattle.script_engine.specs.Replied.{Replied}
 use Rattle.script_engine.specs.Rounds.{Makes}
 use Rattle.script_engine.proofs.calls.make_each.Given as goal

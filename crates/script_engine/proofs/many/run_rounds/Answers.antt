@@ -1,6 +1,6 @@
-use Rattle.std.proofs.Common.{◌≡◌, ap, sym, ◌∙◌}
+use Rattle.std.proofs.Common.{ap, ◌∙◌}
 use Rattle.script_text.specs.declared.scripts.Round.{Round}
-use Rattle.script_engine.proofs.RoundAfterRound.{run_own, ready_next, ran_next, crew_stays}
+use Rattle.script_engine.proofs.RoundAfterRound.{ready_next, ran_next, crew_stays}
 use Rattle.script_engine.proofs.many.run_rounds.Goals as goal
 
 pub run_round-requires-clause-ready : goal.run_round-requires-clause-ready

@@ -1,7 +1,4 @@
-use Rattle.std.proofs.Common.{◌≡◌, ◌<◌, ℕ, length, slice_index_or, arith, rules, refl, sym, ◌∙◌, subst}
-use Rattle.std.specs.Global.{Vec}
-use Rattle.script_text.specs.declared.scripts.Call.{Call}
-use Rattle.script_engine.specs.declared.rounds.Worker.{Worker}
+use Rattle.std.proofs.Common.{slice_index_or, arith, rules}
 use Rattle.script_engine.specs.Workers.{HasTold}
 use Rattle.script_engine.proofs.Telling.{gather_step}
 use Rattle.script_engine.proofs.notes.gather.Goals as goal

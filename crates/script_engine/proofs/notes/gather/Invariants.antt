@@ -1,4 +1,3 @@
-use Rattle.std.proofs.Common.{◌≡◌, take, length}
 use Rattle.script_engine.specs.Workers.{AreStill, HasLearnt, HaveTold}
 use Rattle.script_engine.proofs.notes.gather.Given as goal
 

@@ -1,5 +1,4 @@
-use Rattle.std.proofs.Common.{◌≡◌, ◌<◌, ℕ, length, slice_index_or, arith, rules, refl, ap, sym, ◌∙◌, subst}
-use Rattle.script_engine.specs.declared.rounds.Worker.{Worker}
+use Rattle.std.proofs.Common.{rules}
 use Rattle.script_engine.proofs.Telling.{spread_step}
 use Rattle.script_engine.proofs.notes.spread.Goals as goal
 

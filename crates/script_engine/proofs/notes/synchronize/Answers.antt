@@ -1,4 +1,4 @@
-use Rattle.std.proofs.Common.{◌≡◌, List, ◌∷◌, rules}
+use Rattle.std.proofs.Common.{rules}
 use Rattle.script_engine.proofs.Telling.{spread_all}
 use Rattle.script_engine.proofs.notes.synchronize.Goals as goal
 

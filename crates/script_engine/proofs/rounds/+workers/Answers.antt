@@ -1,5 +1,5 @@
 -- What the crews ask and do, from their halves.
-use Rattle.std.proofs.Common.{◌≡◌, ◌/◌, length, OnOk, arith, rules, sym, ◌∙◌}
+use Rattle.std.proofs.Common.{OnOk, arith, rules, sym, ◌∙◌}
 use Rattle.std.proofs.lemmas.Result.{on_ok_weaker}
 use Rattle.script_engine.specs.Workers.{AllWorked}
 use Rattle.script_engine.proofs.Crews.{ready_halves, ready_each, idle_worked, worked_halves, on_both}

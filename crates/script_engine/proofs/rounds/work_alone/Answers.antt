@@ -1,4 +1,4 @@
-use Rattle.std.proofs.Common.{◌≡◌, List, length, sym, ◌∙◌, rules}
+use Rattle.std.proofs.Common.{◌≡◌, length, rules}
 use Rattle.script_engine.proofs.Crews.{nobody_worked}
 use Rattle.script_engine.proofs.rounds.work_alone.Goals as goal
 

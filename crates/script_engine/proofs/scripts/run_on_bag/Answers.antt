@@ -1,4 +1,4 @@
-use Rattle.std.proofs.Common.{◌<◌, ◌^◌, ◌∙◌, ℕ, List, length, map, ap, sym, subst, rules}
+use Rattle.std.proofs.Common.{◌<◌, ◌^◌, ◌∙◌, List, length, map, ap, sym, subst}
 use Rattle.std.proofs.lemmas.Option.{slice_get-get_or}
 use Rattle.script_text.specs.declared.scripts.Round.{Round}
 use Rattle.script_text.specs.Scripts.{plain_script, plain_round}

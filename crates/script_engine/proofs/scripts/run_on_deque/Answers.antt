@@ -1,4 +1,4 @@
-use Rattle.std.proofs.Common.{◌<◌, ◌^◌, ℕ, List, length, map, sym, subst, rules}
+use Rattle.std.proofs.Common.{◌<◌, ◌^◌, List, length, map, sym, subst}
 use Rattle.script_text.specs.declared.scripts.Round.{Round}
 use Rattle.script_text.specs.Scripts.{plain_script, plain_round}
 use Rattle.script_engine.specs.Runs.{calls_of}

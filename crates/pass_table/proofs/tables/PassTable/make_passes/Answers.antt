@@ -1,6 +1,6 @@
 use Rattle.std.proofs.Common.{ap, ap₂, ◌∙◌, arith, ◌≡◌, ◌<◌, []}
 use Rattle.pass_table.specs.Views.{opener_next, newcomer, page_of}
-use Rattle.pass_table.specs.Passes.{pass_opening, opening_of, caller_of}
+use Rattle.pass_table.specs.Passes.{pass_opening, opening_of}
 use Rattle.pass_table.specs.Openings.{IsNewPass}
 use Rattle.pass_table.proofs.Lists.{in_order_more, all_in_order, count_after}
 use Rattle.pass_table.proofs.OpenSteps.{splits_first}

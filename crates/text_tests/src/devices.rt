@@ -1,6 +1,6 @@
 //! A gate through its bound, and a writer that wants memory.
 
-use crate::{Gate, OpenGate, Point, Sink, SinkFault, WriteSink, write_whole};
+use shared_io::{Gate, OpenGate, Point, Sink, SinkFault, WriteSink, write_whole};
 use std::io;
 use std::io::{ErrorKind, Write};
 use std::sync::Wait;

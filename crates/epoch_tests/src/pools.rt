@@ -1,4 +1,6 @@
-use crate::{
+//! The words of headers and of heads of stacks.
+
+use pool_core::{
     FreeWord, Header, State, free_word, header, of_free_word, of_header, released, returned, shown,
     taken,
 };

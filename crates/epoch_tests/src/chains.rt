@@ -1,4 +1,6 @@
-use crate::Chains;
+//! Chains whose links may be pending.
+
+use limbo_core::Chains;
 use std::test::Fail;
 
 #[test]

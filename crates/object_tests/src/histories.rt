@@ -1,4 +1,8 @@
-use super::*;
+//! The laws of histories, of an object of its own.
+
+use pass_book::{
+    Object, entries_added, entry_added, list_is_sublist, note_taken, shorter_begins_longer,
+};
 
 // A register that one thread adds to. A call replies what stood there.
 struct Adder;

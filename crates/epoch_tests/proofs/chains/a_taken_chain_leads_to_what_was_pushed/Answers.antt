@@ -1,5 +1,5 @@
 use Rattle.std.proofs.Common.{◌≢◌, arith}
-use Rattle.limbo_core.proofs.tests.a_taken_chain_leads_to_what_was_pushed.Goals as goal
+use Rattle.epoch_tests.proofs.chains.a_taken_chain_leads_to_what_was_pushed.Goals as goal
 
 pub swap_in-requires-2-clause-outside : goal.swap_in-requires-2-clause-outside
 swap_in-requires-2-clause-outside g c =
